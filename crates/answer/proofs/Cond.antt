@@ -1,0 +1,15 @@
+-- What holds of a `cond` by the two values of its test, and what the parts of a conjunction are. Assumes nothing.
+use mathlib.Core.Path.{_≡_, refl}
+use mathlib.Core.Bool.{Bool, true, false, cond, _&&_}
+
+pub by-cond {ℓ κ} : {A : Type ℓ} (P : A → Type κ) (t : Bool) {x y : A} → (t ≡ true → P x) → (t ≡ false → P y) → P (cond t x y)
+by-cond P true a b = a refl
+by-cond P false a b = b refl
+
+pub and-left : (a b : Bool) → (a && b) ≡ true → a ≡ true
+and-left true b p = refl
+and-left false b p = p
+
+pub and-right : (a b : Bool) → (a && b) ≡ true → b ≡ true
+and-right true b p = p
+and-right false b p = cc

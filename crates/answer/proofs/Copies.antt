@@ -1,0 +1,15 @@
+-- A list that is filled element by element from another. Assumes nothing.
+use mathlib.Core.Path.{_≡_, sym, _∙_}
+use mathlib.Core.List.{List, [], _∷_, _++_}
+use Prim.Native.Nat.{ℕ, _+_, _<_, _≤_}
+use native.Mathlib.Numerals.{add-one}
+use lib.ListN.{length, getD, take, set}
+use lib.Seq.{take-suc, take-suc-set, take-all}
+
+-- one element more
+pub grow : (l x : List ℕ) (i a : ℕ) → take i l ≡ take i x → i < length l → i < length x → a ≡ getD x i 0 → take (i + 1) (set l i a) ≡ take (i + 1) x
+grow l x i a e h k s = rw (add-one, take-suc-set, take-suc x i 0) (cc)
+
+-- all of them
+pub whole : (l x : List ℕ) (n : ℕ) → take n l ≡ take n x → length l ≤ n → length x ≤ n → l ≡ x
+whole l x n e h k = sym (take-all n l h) ∙ e ∙ take-all n x k

@@ -1,0 +1,5 @@
+pub mod Cond
+pub mod Checks
+pub mod Copies
+pub mod Every
+pub mod Unique

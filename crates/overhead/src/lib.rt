@@ -1,0 +1,91 @@
+// One frame's overhead: 64 bytes, four rows of columns 1 to 16, row after row.
+ghost use mathlib.Core.Path.{_≡_};
+ghost use lib.ListN.{getD};
+ghost use Rattle.overhead.specs.Overhead.{fourOf, threeOf, fieldOf, overheadOf, farBlock};
+
+// The three bytes of SM or PM as far as they are looked at. The section looks at `iae`, the path at `stat`.
+pub struct Field {
+    pub tti: u8,
+    pub bei: u8,
+    pub bdi: bool,
+    pub iae: bool,
+    pub stat: u8,
+}
+
+// All that is looked at in a frame. `four`: columns 2 to 5 are framing; `three`: columns 3 to 5 are.
+pub struct Overhead {
+    pub four: bool,
+    pub three: bool,
+    pub mfas: u8,
+    pub section: Field,
+    pub path: Field,
+}
+
+// The byte at an index, 0 past the end.
+fn byte_at(bytes: &[u8], at: usize) -> u8
+    ensures { λ r. ⌜ r ≡ getD (now (bytes .entry)) at 0 ⌝ }
+{
+    if at < bytes.len() {
+        return bytes[at];
+    }
+    0
+}
+
+// Columns 3 to 5 of row 1 are F6 28 28.
+fn three_of(bytes: &[u8]) -> bool
+    ensures { λ r. ⌜ r ≡ threeOf (now (bytes .entry)) ⌝ }
+{
+    let c = byte_at(bytes, 2);
+    let d = byte_at(bytes, 3);
+    let e = byte_at(bytes, 4);
+    (c == 0xF6) & (d == 0x28) & (e == 0x28)
+}
+
+// Columns 2 to 5 of row 1 are F6 F6 28 28.
+fn four_of(bytes: &[u8]) -> bool
+    ensures { λ r. ⌜ r ≡ fourOf (now (bytes .entry)) ⌝ }
+{
+    let b = byte_at(bytes, 1);
+    let three = three_of(bytes);
+    (b == 0xF6) & three
+}
+
+// The field whose TTI byte stands at `at`; its status byte is two columns further.
+fn field_of(bytes: &[u8], tti: usize, status: usize) -> Field
+    ensures { λ r. ⌜ r ≡ fieldOf (getD (now (bytes .entry)) tti 0) (getD (now (bytes .entry)) status 0) ⌝ }
+{
+    let t = byte_at(bytes, tti);
+    let s = byte_at(bytes, status);
+    Field {
+        tti: t,
+        bei: s / 16,
+        bdi: s / 8 % 2 == 1,
+        iae: s / 4 % 2 == 1,
+        stat: s % 8,
+    }
+}
+
+// The overhead that any bytes show.
+pub fn overhead_of(bytes: &[u8]) -> Overhead
+    ensures { λ r. ⌜ r ≡ overheadOf (now (bytes .entry)) ⌝ }
+{
+    let four = four_of(bytes);
+    let three = three_of(bytes);
+    let mfas = byte_at(bytes, 6);
+    let section = field_of(bytes, 7, 9);
+    let path = field_of(bytes, 41, 43);
+    Overhead {
+        four: four,
+        three: three,
+        mfas: mfas,
+        section: section,
+        path: path,
+    }
+}
+
+// The BEI reading: whether it tells of a far-end errored block.
+pub fn far_block(bei: u8) -> bool
+    ensures { λ r. ⌜ r ≡ farBlock bei ⌝ }
+{
+    (1 <= bei) & (bei <= 8)
+}

@@ -1,0 +1,24 @@
+use Rattle.supervisor.specs.Settings.{ceilingOf}
+use borrow.Author.Tests.{eq-eqb, ne-eqb}
+use Rattle.supervisor.proofs.settings.ceiling.Statement.{statement}
+use Rattle.supervisor.proofs.settings.ceiling.Tie as tie
+use Rattle.supervisor.proofs.settings.ceiling.Reads as reads
+use Rattle.supervisor.proofs.settings.ceiling.Lts as lts
+
+-- src/settings.rt:34:9
+returns : tie.Need-returns
+unfolding ceilingOf
+returns c = simp (eq-eqb _ _ (c .if1 .taken))
+
+-- src/settings.rt:37:9
+returns-2 : tie.Need-returns-2
+unfolding ceilingOf
+returns-2 c = simp (ne-eqb _ _ (c .before .if1 .left), eq-eqb _ _ (c .if2 .taken))
+
+-- src/settings.rt:30:1
+returns-3 : tie.Need-returns-3
+unfolding ceilingOf
+returns-3 c = simp (ne-eqb _ _ (c .before .if1 .left), ne-eqb _ _ (c .if2 .left))
+
+pub ceiling-spec : {M : Type 1} → statement M
+ceiling-spec = tie.close (tie.spec returns returns-2 returns-3)
