@@ -1,4 +1,5 @@
-use Rattle.supervisor.proofs.Named.{named-32}
+use mathlib.Core.Path.{sym, _∙_}
+use Rattle.supervisor.proofs.Ranges.{provisioned-in}
 use Rattle.supervisor.specs.Supervisor.{provisionOf}
 use borrow.Author.Tests.{eq-eqb, ne-eqb}
 use borrow.Author.Needs.{needs}
@@ -18,11 +19,11 @@ settings-refusal-requires c κs = search needs
 
 -- src/lib.rt:467:13
 names-of-requires : tie.Need-names-of-requires
-names-of-requires c κs = named-32 _ _ _ _ _ _ (c .before .settings-refusal .ensures) (c .if1 .taken) .0
+names-of-requires c κs = provisioned-in _ _ _ _ _ (sym (c .before .settings-refusal .ensures) ∙ c .if1 .taken) .section .names
 
 -- src/lib.rt:468:13
 names-of-requires-2 : tie.Need-names-of-requires-2
-names-of-requires-2 c κs = named-32 _ _ _ _ _ _ (c .before .before .settings-refusal .ensures) (c .before .if1 .taken) .1
+names-of-requires-2 c κs = provisioned-in _ _ _ _ _ (sym (c .before .before .settings-refusal .ensures) ∙ c .before .if1 .taken) .path .names
 
 -- src/lib.rt:469:13
 options-of-requires : tie.Need-options-of-requires
