@@ -31,7 +31,7 @@ filter-most f n m forget bit h =
     (λ _. by-cond P (eqb (upOf (f .run) n) n) (λ _. omega arith)
     (λ e. let a : upOf (f .run) n ≤ n = up-most (f .run) n in let d = eqb-false (upOf (f .run) n) n e in omega (arith, d))))
 
-in-row-most : (s : Stat) (v : ℕ) → inRow s v ≤ 3
+pub in-row-most : (s : Stat) (v : ℕ) → inRow s v ≤ 3
 unfolding inRow
 in-row-most s v = by-cond (λ (x : ℕ). x ≤ 3) (eqb v (s .value)) (λ _. up-most (s .run) 3) (λ _. omega arith)
 

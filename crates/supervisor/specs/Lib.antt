@@ -4,3 +4,6 @@ pub mod Settings
 pub mod Layers
 pub mod Supervisor
 pub mod Ranges
+pub mod History
+pub mod OneCause
+pub mod Ledger

@@ -1,0 +1,18 @@
+-- No second answer meets the contracts of this crate. Assumes nothing.
+use mathlib.Core.Path.{sym, _∙_}
+use Rattle.answer.specs.Answer.{OneAnswer}
+use Rattle.filter.proofs.up.Kinds as up-kinds
+use Rattle.filter.proofs.up.Reads as up-reads
+use Rattle.filter.proofs.filter_step.Kinds as filter-kinds
+use Rattle.filter.proofs.filter_step.Reads as filter-reads
+use Rattle.filter.proofs.stat_step.Kinds as stat-kinds
+use Rattle.filter.proofs.stat_step.Reads as stat-reads
+
+pub up-one : OneAnswer 0 up-kinds.ps up-kinds.r up-reads.Post
+up-one κs a x y s t p q = p ∙ sym q
+
+pub filter-step-one : OneAnswer 0 filter-kinds.ps filter-kinds.r filter-reads.Post
+filter-step-one κs a x y s t p q = p ∙ sym q
+
+pub stat-step-one : OneAnswer 0 stat-kinds.ps stat-kinds.r stat-reads.Post
+stat-step-one κs a x y s t p q = p ∙ sym q
