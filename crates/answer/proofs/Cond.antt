@@ -13,3 +13,8 @@ and-left false b p = p
 pub and-right : (a b : Bool) → (a && b) ≡ true → b ≡ true
 and-right true b p = p
 and-right false b p = cc
+
+-- a function of a `cond` is the `cond` of the function
+pub cond-under {ℓ κ} : {A : Type ℓ} {B : Type κ} (f : A → B) (t : Bool) (x y : A) → f (cond t x y) ≡ cond t (f x) (f y)
+cond-under f true x y = refl
+cond-under f false x y = refl

@@ -46,10 +46,10 @@ one-more n k bit f h =
     (λ e. ⊎-elim
     (λ (a : f .on ≡ bit). absurd (differ d a))
     (λ (c : k ≤ f .run).
-        let u : upOf (f .run) n ≡ f .run + 1 = up-least (f .run) n e in
-        let m : upOf (f .run) n ≤ n = up-most (f .run) n in
-        let x = eqb-false (upOf (f .run) n) n e in
-        inr (omega arith, omega (arith, x)))
+    let u : upOf (f .run) n ≡ f .run + 1 = up-least (f .run) n e in
+    let m : upOf (f .run) n ≤ n = up-most (f .run) n in
+    let x = eqb-false (upOf (f .run) n) n e in
+    inr (omega arith, omega (arith, x)))
     h))
   where
     differ : Bool·beq bit (f .on) ≡ false → f .on ≡ bit → ⊥
