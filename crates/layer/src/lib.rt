@@ -154,7 +154,7 @@ pub fn tim(l: Layer, mode: u8, names: [u8; 32]) -> bool
 }
 
 // The signal of a three-bit STAT number.
-pub fn signal_of(stat: u8) -> Signal
+fn signal_of(stat: u8) -> Signal
     ensures { λ r. ⌜ r ≡ signalOf stat ⌝ }
 {
     match stat {

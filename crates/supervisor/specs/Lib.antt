@@ -7,3 +7,4 @@ pub mod Ranges
 pub mod History
 pub mod OneCause
 pub mod Ledger
+pub mod Cases

@@ -309,7 +309,7 @@ pub fn step(s: Supervisor, overhead: &[u8], flags: u8, sm: u8, pm: u8) -> Steppe
         let before = s.layers;
         let c = s.second;
         let a = advance(settings, before, o, flags);
-        let layers = a.layers;
+        let next = a.layers;
         let standing = a.standing;
         let report = causes::report_of(standing, sm, pm);
         let open = second::count(c, standing, o, sm, pm);
@@ -318,7 +318,7 @@ pub fn step(s: Supervisor, overhead: &[u8], flags: u8, sm: u8, pm: u8) -> Steppe
             report: report,
             supervisor: Supervisor {
                 settings: settings,
-                layers: layers,
+                layers: next,
                 second: open,
                 seconds: s.seconds,
             },
