@@ -13,7 +13,7 @@ upOf run n = cond (ltb run n) (run + 1) n
 abbrev pub quiet : Filter
 quiet = record { on = false; run = 0 }
 
--- "BDI 1 in five frames in a row; cleared by five 0": a bit like the state ends the run; the n-th in a row that is not is taken over.
+-- (6.2.6.6.1, 6.2.6.10.1, 6.2.6.11.1) "BDI 1 in five frames in a row; cleared by five 0": a bit like the state ends the run; the n-th in a row that is not is taken over.
 -- "Where a defect is 'false during' X, its run .. [is] forgotten too in each such frame."
 unfoldable pub filterOf : Filter → ℕ → Bool → Bool → Filter
 filterOf f n forget bit =

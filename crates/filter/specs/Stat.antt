@@ -1,4 +1,4 @@
--- A value in three frames in a row is accepted (6.2.6.3, document 01 "Path STAT"). Assumes nothing.
+-- A value in three frames in a row is accepted (8.8; document 01 "Path STAT"). Assumes nothing.
 use Prim.Native.Nat.{ℕ}
 use mathlib.Core.Bool.{Bool, true, false, cond, _||_}
 use lib.Dec.{eqb}

@@ -65,7 +65,7 @@ traceOf l forget inmulti number tti =
     (byteOf l (number % 64) tti)
     (withTrace l (l .accepted) (l .gathered) (l .previous) (l .known) false 0))
 
--- the trace, and "dBDI: BDI 1 in five frames in a row; cleared by five 0" (6.2.6.6): both are forgotten in the same frames
+-- the trace, and "dBDI: BDI 1 in five frames in a row; cleared by five 0" (6.2.6.6.1): both are forgotten in the same frames
 unfoldable pub layerOf : Layer → Bool → Bool → ℕ → ℕ → Bool → Layer
 layerOf l forget inmulti number tti bdi =
     withBdi (traceOf l forget inmulti number tti) (filterOf (l .bdi) 5 forget bdi)

@@ -1,4 +1,4 @@
--- "Path STAT" (document 01): what an accepted code raises (6.2.6.3, 6.2.6.8.1, 6.2.6.9). Assumes nothing.
+-- "Path STAT" (document 01): what an accepted code raises (6.2.6.3.2, 6.2.6.8.2, 6.2.6.9.1). Assumes nothing.
 use Prim.Native.Nat.{ℕ}
 use mathlib.Core.Bool.{Bool, true, false, cond, _||_}
 use mathlib.Core.List.{List, [], _∷_}

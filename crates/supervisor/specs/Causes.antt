@@ -15,7 +15,7 @@ use Rattle.supervisor.specs.declared.causes.PathCauses.{PathCauses}
 use Rattle.supervisor.specs.declared.causes.Causes.{Causes}
 use Rattle.supervisor.specs.declared.causes.Report.{Report}
 
--- "Section SSF stands when TSF-P, OTUk-AIS, dLOF or dLOM stands."
+-- "Section SSF stands when TSF-P, OTUk-AIS, dLOF or dLOM stands." (12.3.1.3)
 unfoldable pub ssfOf : Line → Bool
 ssfOf l = l .tsf || l .ais || l .lof || l .lom
 
@@ -23,7 +23,7 @@ ssfOf l = l .tsf || l .ais || l .lof || l .lom
 unfoldable pub timActs : Bool → Bool → Bool
 timActs tim disabled = tim && not disabled
 
--- "Causes at the line: cLOF = dLOF without TSF-P and OTUk-AIS. cLOM = dLOM without these two and dLOF." (12.3.1.2)
+-- "Causes at the line: cLOF = dLOF without TSF-P and OTUk-AIS. cLOM = dLOM without these two and dLOF." (12.3.1.3)
 abbrev pub lineCauses : Line → LineCauses
 lineCauses l = record {
   lof = l .lof && not (l .tsf || l .ais);

@@ -39,7 +39,7 @@ lineOf a n flags = record {
 }
 
 -- The section: its trace and dBDI are "False during SSF". "Section dIAE: IAE, five and five. Section dBIAE: BEI = 1011 in three
--- frames in a row; cleared by three others. Both false during SSF and dTIM." (6.2.6.10, 6.2.6.11)
+-- frames in a row; cleared by three others. Both false during SSF and dTIM." (6.2.6.10.1, 6.2.6.11.1)
 unfoldable pub sectionOf : SectionState → Options → Bool → Multi → Field → SectionState
 sectionOf s p ssf m f =
     let l : Layer = layerOf (s .layer) ssf (m .inmulti) (m .number) (f .tti) (f .bdi) in

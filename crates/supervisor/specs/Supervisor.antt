@@ -79,7 +79,7 @@ stepOf s overhead flags sm pm =
     (record { refusal = refusal; report = noReport; supervisor = s })
 
 -- "dDEG, decided at a mark: a second is bad if its near-end block count, after discard, is at least DEGThr. DEGM bad seconds in a
--- row raise it, DEGM others clear it. SSF doesn't force it." (6.2.3.4)
+-- row raise it, DEGM others clear it. SSF doesn't force it." (6.2.3.4, 6.2.3.5)
 abbrev pub degraded : Layer → Options → ℕ → Layer
 degraded l p near = withDeg l (filterOf (l .deg) (p .degm) false (leb (p .thr) near))
 
