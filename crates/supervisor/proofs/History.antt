@@ -89,7 +89,7 @@ follows s before = record {
   only = λ layer. handed-append s before (reads layer ∷ []);
 }
 
-seconds-left : (s : Supervisor) → refusalOf s mark ≡ 0 → s .seconds < 4294967295
+pub seconds-left : (s : Supervisor) → refusalOf s mark ≡ 0 → s .seconds < 4294967295
 unfolding refusalOf
 seconds-left s = by-cond (λ (n : ℕ). n ≡ 0 → s .seconds < 4294967295) (ltb (s .seconds) 4294967295) (λ e _. ltb-true _ _ e) (λ _ z. absurd (omega arith))
 

@@ -5,7 +5,7 @@ use mathlib.Core.Bool.{Bool, true, false, cond, not, _&&_, _||_, true≢false}
 use mathlib.Core.List.{List, [], _∷_, _++_, map}
 use native.Mathlib.Nat.{le-of-suc-le-suc, not-suc-le-zero, add-zero, zero-add}
 use native.Mathlib.Omega.{arith}
-use lib.Dec.{leb, eqb, ltb, eqb·zero-suc, eqb·suc-zero, eqb·suc-suc}
+use lib.Dec.{lit<, leb, eqb, ltb, eqb·zero-suc, eqb·suc-zero, eqb·suc-suc}
 use lib.ListN.{length, getD, set, replicate, length-set}
 use borrow.Author.Tests.{ltb-true, lt-ltb}
 use Rattle.answer.proofs.Cond.{by-cond, cond-under}
@@ -14,11 +14,11 @@ use Rattle.filter.specs.Filter.{upOf}
 use Rattle.filter.proofs.Bounds.{up-plain}
 use Rattle.overhead.specs.Overhead.{overheadOf, farBlock}
 use Rattle.supervisor.specs.Causes.{ssfOf, pathSsf, pathDown, headOf}
-use Rattle.supervisor.specs.Second.{nearOf, farOf, oneFrame, oneUnder, blocksOf, countOf, discardOf, closedOf, flag, freshSecond}
-use Rattle.supervisor.specs.Supervisor.{freshOf, stepChecks, stepRefusal, frameOf, nextSecond}
+use Rattle.supervisor.specs.Second.{nearOf, farOf, oneFrame, oneUnder, blocksOf, countOf, discardOf, closedOf, flag, figuresOf, freshSecond}
+use Rattle.supervisor.specs.Supervisor.{freshOf, stepChecks, stepRefusal, frameOf, nextSecond, markOf}
 use Rattle.supervisor.specs.History.{Frame, Event, frame, mark, standsAt, framed, eventOf, after, refusalOf, Accepted}
 use Rattle.supervisor.specs.OneCause.{OneCause}
-use Rattle.supervisor.specs.Ledger.{Question, tally, some, under, sectionNear, sectionFar, sectionNearDs, sectionFarDs, sectionIae, sectionBiae, pathNear, pathFar, pathNearDs, pathFarDs, sumOf, Says, Begins, at-start, after-mark, Since, Demand3}
+use Rattle.supervisor.specs.Ledger.{Question, tally, some, under, sectionNear, sectionFar, sectionNearDs, sectionFarDs, sectionIae, sectionBiae, pathNear, pathFar, pathNearDs, pathFarDs, sumOf, Says, Begins, at-start, after-mark, Since, lineOf, marks, Demand3}
 use Rattle.supervisor.specs.declared.causes.Standing.{Standing}
 use Rattle.supervisor.specs.declared.second.Near.{Near}
 use Rattle.supervisor.specs.declared.second.Far.{Far}
@@ -26,7 +26,7 @@ use Rattle.supervisor.specs.declared.second.Second.{Second}
 use Rattle.supervisor.specs.declared.settings.Settings.{Settings}
 use Rattle.supervisor.specs.declared.Supervisor.{Supervisor}
 use Rattle.supervisor.proofs.OneCause.{one-cause}
-use Rattle.supervisor.proofs.History.{after-append, accepted-append}
+use Rattle.supervisor.proofs.History.{after-append, accepted-append, seconds-left}
 
 -- the second after one more frame
 abbrev counted : Second → Standing → Frame → Second
@@ -252,6 +252,42 @@ since-of [] = record { before = []; begins = at-start; frames = []; is = refl }
 since-of (frame f ∷ h) = let o : Since h = since-of h in since-frame f h (o .before) (o .begins) (o .frames) (o .is)
 since-of (mark ∷ h) = let o : Since h = since-of h in since-mark h (o .before) (o .begins) (o .frames) (o .is)
 
+-- the number of the second is one more than the marks
+seconds-after : (s : Supervisor) (h : List Event) → after s h .seconds ≡ s .seconds + marks h
+unfolding after eventOf frameOf nextSecond
+seconds-after s [] = rw add-zero
+seconds-after s (frame f ∷ h) = seconds-after (framed s f) h
+seconds-after s (mark ∷ h) = omega (arith, seconds-after (nextSecond s) h)
+
+-- the twenty figures
+figures-are : (n : ℕ) (s : Supervisor) (fs : List Frame) (c : Second) → Says s fs c → figuresOf n c ≡ lineOf n s fs
+figures-are n s fs c y =
+    simp (
+      y .frames,
+      y .heads 0 (lit< tt),
+      y .heads 1 (lit< tt),
+      y .heads 2 (lit< tt),
+      y .heads 3 (lit< tt),
+      y .heads 4 (lit< tt),
+      y .heads 5 (lit< tt),
+      y .heads 6 (lit< tt),
+      y .heads 7 (lit< tt),
+      y .heads 8 (lit< tt),
+      y .heads 9 (lit< tt),
+      y .section-near,
+      y .section-far,
+      y .section-neards,
+      y .section-fards,
+      y .near,
+      y .far,
+      y .neards,
+      y .fards,
+    )
+
+mark-figures : (s : Supervisor) → refusalOf s mark ≡ 0 → markOf s .figures ≡ figuresOf (s .seconds + 1) (closedOf (s .second))
+unfolding markOf
+mark-figures s e = rw (lt-ltb (s .seconds) 4294967295 (seconds-left s e))
+
 -- Demand 3
 pub demand-3 : (p : Settings) (h : List Event) → Accepted (freshOf p) h → Demand3 p h
 demand-3 p h a =
@@ -261,4 +297,14 @@ demand-3 p h a =
     says-of (after (freshOf p) (o .before)) (begun p (o .before) (o .begins)) (o .frames) (accepted-append (freshOf p) (o .before) (map frame (o .frames)) split .1) in
     let same : after (freshOf p) h .second ≡ after (after (freshOf p) (o .before)) (map frame (o .frames)) .second =
     ap (λ (g : List Event). after (freshOf p) g .second) (o .is) ∙ ap (λ (s : Supervisor). s .second) (after-append (freshOf p) (o .before) (map frame (o .frames))) in
-    record { since = o; says = subst⁻¹ (λ (c : Second). Says (after (freshOf p) (o .before)) (o .frames) (closedOf c)) same says }
+    let said : Says (after (freshOf p) (o .before)) (o .frames) (closedOf (after (freshOf p) h .second)) =
+    subst⁻¹ (λ (c : Second). Says (after (freshOf p) (o .before)) (o .frames) (closedOf c)) same says in
+    let number : after (freshOf p) h .seconds ≡ marks h = seconds-after (freshOf p) h ∙ zero-add (marks h) in
+    record {
+      since = o;
+      says = said;
+      figures = λ e.
+          mark-figures (after (freshOf p) h) e
+          ∙ ap (λ (n : ℕ). figuresOf (n + 1) (closedOf (after (freshOf p) h .second))) number
+          ∙ figures-are (marks h + 1) (after (freshOf p) (o .before)) (o .frames) (closedOf (after (freshOf p) h .second)) said;
+    }

@@ -8,8 +8,8 @@ use lib.ListN.{length, getD}
 use Rattle.overhead.specs.Overhead.{overheadOf, farBlock}
 use Rattle.supervisor.specs.Causes.{ssfOf, pathSsf, pathDown, headOf}
 use Rattle.supervisor.specs.Second.{flag, closedOf}
-use Rattle.supervisor.specs.Supervisor.{freshOf}
-use Rattle.supervisor.specs.History.{Frame, Event, frame, mark, standsAt, framed, after}
+use Rattle.supervisor.specs.Supervisor.{freshOf, markOf}
+use Rattle.supervisor.specs.History.{Frame, Event, frame, mark, standsAt, framed, after, refusalOf}
 use Rattle.supervisor.specs.declared.causes.Standing.{Standing}
 use Rattle.supervisor.specs.declared.second.Second.{Second}
 use Rattle.supervisor.specs.declared.settings.Settings.{Settings}
@@ -99,7 +99,28 @@ pub record Since (h : List Event) : Type 0 where
   pub frames : List Frame
   pub is : h ≡ before ++ map frame frames
 
--- Demand 3: a mark after the history h closes a second that says of the frames since the last mark what they are
+-- the figures of a line S, by the second's number and its frames
+abbrev pub lineOf : ℕ → Supervisor → List Frame → List ℕ
+lineOf n s fs =
+    let iae : Bool = some sectionIae s fs in
+    let biae : Bool = some sectionIae s fs || some sectionBiae s fs in
+    n ∷ length fs
+    ∷ tally (under 0) s fs ∷ tally (under 1) s fs ∷ tally (under 2) s fs ∷ tally (under 3) s fs ∷ tally (under 4) s fs
+    ∷ tally (under 5) s fs ∷ tally (under 6) s fs ∷ tally (under 7) s fs ∷ tally (under 8) s fs ∷ tally (under 9) s fs
+    ∷ cond iae 0 (tally sectionNear s fs) ∷ cond biae 0 (tally sectionFar s fs)
+    ∷ flag (cond iae false (some sectionNearDs s fs)) ∷ flag (cond biae false (some sectionFarDs s fs))
+    ∷ tally pathNear s fs ∷ tally pathFar s fs ∷ flag (some pathNearDs s fs) ∷ flag (some pathFarDs s fs) ∷ []
+
+-- the marks of a history
+abbrev pub marks : List Event → ℕ
+marks [] = 0
+marks (frame f ∷ h) = marks h
+marks (mark ∷ h) = 1 + marks h
+
+-- Demand 3: a mark after the history h closes a second that says of the frames since the last mark what they are, and its twenty figures
+-- are those of the line
 pub record Demand3 (p : Settings) (h : List Event) : Type 0 where
   pub since : Since h
   pub says : Says (after (freshOf p) (since .before)) (since .frames) (closedOf (after (freshOf p) h .second))
+  pub figures : refusalOf (after (freshOf p) h) mark ≡ 0
+      → markOf (after (freshOf p) h) .figures ≡ lineOf (marks h + 1) (after (freshOf p) (since .before)) (since .frames)
