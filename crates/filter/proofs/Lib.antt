@@ -1,3 +1,4 @@
 pub mod Bounds
 pub mod Rows
+pub mod Since
 pub mod Unique

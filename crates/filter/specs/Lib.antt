@@ -1,3 +1,4 @@
 pub mod Filter
 pub mod Stat
 pub mod Rows
+pub mod Since

@@ -1,0 +1,127 @@
+-- dLOF and dLOM stand exactly where their statements without counters say. Assumes nothing.
+use mathlib.Core.Path.{_≡_, refl, ap, sym, _∙_, subst⁻¹}
+use mathlib.Core.Logic.{_↔_}
+use mathlib.Core.Bool.{Bool, true, false, cond, Bool·beq}
+use mathlib.Core.List.{List, [], _∷_, _++_, tail-eq-of-cons-eq, nil≢cons}
+use Prim.Native.Nat.{ℕ, zero, suc, _+_, _≤_, _<_, zero-le, suc-le-suc, min}
+use native.Mathlib.Nat.{zero-add}
+use native.Mathlib.Omega.{arith}
+use borrow.Author.Tests.{ltb-true, ltb-false, eqb-true, eqb-false, eq-eqb, ne-eqb, le-leb, lt-leb, leb-true, leb-false}
+use lib.Dec.{leb, eqb, ltb}
+use lib.ListN.{drop, replicate}
+use Rattle.answer.proofs.Cond.{by-cond}
+use Rattle.filter.specs.Filter.{upOf}
+use Rattle.filter.specs.Since.{NoRun}
+use Rattle.filter.proofs.Bounds.{up-plain, up-most}
+use Rattle.filter.proofs.Since.{lead, lead-run, run-lead}
+use Rattle.alignment.specs.declared.Lof.{Lof}
+use Rattle.alignment.specs.Alignment.{lofOf, lomOf}
+use Rattle.alignment.specs.Since.{oofs, Reset, start, cleared, Cut, lofAfter, LofIs, lomAfter, AllOut}
+
+-- a counter that stops at n is the plain count, and n at most
+up-min : (n z : ℕ) → upOf (min n z) n ≡ min n (z + 1)
+unfolding upOf
+up-min n z =
+    by-cond (λ (x : ℕ). x ≡ min n (z + 1)) (ltb (min n z) n)
+    (λ e. let h : min n z < n = ltb-true _ _ e in omega arith)
+    (λ e. let h : n ≤ min n z = ltb-false _ _ e in omega arith)
+
+lead-mono : (b : Bool) (c r : List Bool) → lead b c ≤ lead b (c ++ r)
+lead-mono b [] r = zero-le
+lead-mono true (true ∷ c) r = suc-le-suc (lead-mono true c r)
+lead-mono true (false ∷ c) r = zero-le
+lead-mono false (true ∷ c) r = zero-le
+lead-mono false (false ∷ c) r = suc-le-suc (lead-mono false c r)
+
+-- one more frame that completes no n in a row in IF
+longer : (n : ℕ) (x : Bool) (l : List Bool) → lead true (x ∷ l) < n → (k : Cut n l) → NoRun n true (x ∷ k .since)
+longer n x l h k [] e p =
+    let a : n ≤ lead true (x ∷ k .since) = subst⁻¹ (λ (m : List Bool). n ≤ lead true m) p (run-lead n true e) in
+    let b : lead true (x ∷ k .since) ≤ lead true (x ∷ (k .since ++ k .rest)) = lead-mono true (x ∷ k .since) (k .rest) in
+    let c : lead true (x ∷ l) ≡ lead true (x ∷ (k .since ++ k .rest)) = ap (λ (m : List Bool). lead true (x ∷ m)) (k .is) in
+    omega arith
+longer n x l h k (y ∷ d) e p = k .none d e (tail-eq-of-cons-eq p)
+
+cut-more : (n : ℕ) (x : Bool) (l : List Bool) → lead true (x ∷ l) < n → Cut n l → Cut n (x ∷ l)
+cut-more n x l h k = record {
+  since = x ∷ k .since;
+  rest = k .rest;
+  is = ap (λ (m : List Bool). x ∷ m) (k .is);
+  reset = k .reset;
+  none = longer n x l h k;
+}
+
+norun-nil : (n : ℕ) → NoRun (suc n) true []
+norun-nil n [] e p = nil≢cons p
+norun-nil n (y ∷ d) e p = nil≢cons p
+
+cut-here : (n : ℕ) (l : List Bool) → suc n ≤ lead true l → Cut (suc n) l
+cut-here n l h = record {
+  since = [];
+  rest = l;
+  is = refl;
+  reset = subst⁻¹ (Reset (suc n)) (lead-run (suc n) true l h) (cleared (drop (suc n) l));
+  none = norun-nil n;
+}
+
+-- the counters: the frames in a row in IF, and the frames in OOF since the cut, each n at most
+record Kept (n : ℕ) (l : List Bool) (s : Lof) : Type 0 where
+  good : s .good ≡ min n (lead true l)
+  cut : Cut n l
+  total : s .total ≡ min n (oofs (cut .since))
+
+in-IF : (n : ℕ) (l : List Bool) (s : Lof) (t : Bool) → eqb (upOf (s .good) (suc n)) (suc n) ≡ t → Kept (suc n) l s
+    → Kept (suc n) (true ∷ l) (record { total = cond t 0 (s .total); good = upOf (s .good) (suc n) })
+unfolding cut-here cut-more
+in-IF n l s t e k = by-t t e
+  where
+    g : upOf (s .good) (suc n) ≡ min (suc n) (lead true l + 1)
+    g = rw (k .good) (up-min (suc n) (lead true l))
+    by-t : (t : Bool) → eqb (upOf (s .good) (suc n)) (suc n) ≡ t → Kept (suc n) (true ∷ l) (record { total = cond t 0 (s .total); good = upOf (s .good) (suc n) })
+    by-t true e =
+        let z : upOf (s .good) (suc n) ≡ suc n = eqb-true _ _ e in
+        record { good = omega (arith, g); cut = cut-here n (true ∷ l) (omega (arith, g, z)); total = omega arith }
+    by-t false e =
+        let d = eqb-false (upOf (s .good) (suc n)) (suc n) e in
+        record { good = omega (arith, g); cut = cut-more (suc n) true l (omega (arith, g, d)) (k .cut); total = k .total ∙ ap (min (suc n)) (sym (zero-add _)) }
+
+in-OOF : (n : ℕ) (l : List Bool) (s : Lof) → Kept (suc n) l s → Kept (suc n) (false ∷ l) (record { total = upOf (s .total) (suc n); good = 0 })
+unfolding cut-more
+in-OOF n l s k = record {
+  good = omega arith;
+  cut = cut-more (suc n) false l (omega arith) (k .cut);
+  total = rw (k .total) (omega (arith, up-min (suc n) (oofs (k .cut .since))));
+}
+
+kept-step : (n : ℕ) (l : List Bool) (s : Lof) (x : Bool) → Kept (suc n) l s → Kept (suc n) (x ∷ l) (lofOf s (suc n) x)
+unfolding lofOf
+kept-step n l s true k = in-IF n l s (eqb (upOf (s .good) (suc n)) (suc n)) refl k
+kept-step n l s false k = in-OOF n l s k
+
+kept : (n : ℕ) (l : List Bool) → Kept (suc n) l (lofAfter (suc n) l)
+unfolding lofAfter
+kept n [] = record { good = omega arith; cut = record { since = []; rest = []; is = refl; reset = start; none = norun-nil n }; total = omega arith }
+kept n (x ∷ l) = kept-step n l (lofAfter (suc n) l) x (kept n l)
+
+-- the stopped count is n exactly where the plain one is at least n
+min-is : (n z : ℕ) (t : Bool) → leb n z ≡ t → eqb (min n z) n ≡ t
+min-is n z true e = let h : n ≤ z = leb-true _ _ e in eq-eqb (min n z) n (omega arith)
+min-is n z false e = let h : z < n = leb-false _ _ e in ne-eqb (min n z) n (λ p. omega (arith, p))
+
+pub lof-is : (n : ℕ) (l : List Bool) → LofIs (suc n) l
+lof-is n l =
+    let k : Kept (suc n) l (lofAfter (suc n) l) = kept n l in
+    record { cut = k .cut; stands = rw (k .total) (min-is (suc n) (oofs (k .cut .since)) _ refl) }
+
+-- dLOM
+lom-run : (n : ℕ) (l : List Bool) → lomAfter n l ≡ min n (lead false l)
+unfolding lomAfter lomOf
+lom-run n [] = omega arith
+lom-run n (true ∷ l) = omega arith
+lom-run n (false ∷ l) = rw (lom-run n l) (omega (arith, up-min n (lead false l)))
+
+-- dLOM: the last n frames were all in OOM
+pub lom-is : (n : ℕ) (l : List Bool) → (lomAfter n l ≡ n) ↔ AllOut n l
+lom-is n l =
+    (λ e. record { before = drop n l; is = lead-run n false l (omega (arith, lom-run n l)) },
+    λ o. let h : n ≤ lead false l = subst⁻¹ (λ (m : List Bool). n ≤ lead false m) (o .is) (run-lead n false (o .before)) in omega (arith, lom-run n l))

@@ -1,0 +1,193 @@
+-- A filter of n and n without its counter: it is on exactly where `On` says. Assumes nothing.
+use mathlib.Core.Path.{_≡_, refl, ap, sym, _∙_, subst⁻¹}
+use mathlib.Core.Logic.{_↔_}
+use mathlib.Core.Bool.{Bool, true, false, not, cond, Bool·beq, true≢false, false≢true}
+use mathlib.Core.List.{List, [], _∷_, _++_, head-eq-of-cons-eq, tail-eq-of-cons-eq, nil≢cons}
+use Prim.Native.Nat.{ℕ, zero, suc, _+_, _≤_, _<_, zero-le, suc-le-suc}
+use native.Mathlib.Nat.{le-of-suc-le-suc, not-suc-le-zero}
+use native.Mathlib.Numerals.{add-one}
+use native.Mathlib.Omega.{arith}
+use borrow.Author.Tests.{eqb-true, eqb-false}
+use lib.Dec.{eqb}
+use lib.ListN.{length, drop, replicate}
+use Rattle.filter.specs.declared.Filter.{Filter}
+use Rattle.filter.specs.Filter.{upOf, quiet, filterOf}
+use Rattle.filter.specs.Since.{NoRun, On, Given, filterAfter, bitsSince}
+use Rattle.filter.proofs.Bounds.{up-plain, up-most}
+
+-- how many bits at the front are b
+abbrev pub lead : Bool → List Bool → ℕ
+lead b [] = 0
+lead b (x ∷ l) = cond (Bool·beq x b) (suc (lead b l)) 0
+
+beq-self : (b : Bool) → Bool·beq b b ≡ true
+beq-self true = refl
+beq-self false = refl
+
+pub lead-run : (n : ℕ) (b : Bool) (l : List Bool) → n ≤ lead b l → l ≡ replicate n b ++ drop n l
+lead-run zero b l h = refl
+lead-run (suc n) b [] h = absurd (not-suc-le-zero h)
+lead-run (suc n) true (true ∷ l) h = ap (λ (k : List Bool). true ∷ k) (lead-run n true l (le-of-suc-le-suc h))
+lead-run (suc n) true (false ∷ l) h = absurd (not-suc-le-zero h)
+lead-run (suc n) false (true ∷ l) h = absurd (not-suc-le-zero h)
+lead-run (suc n) false (false ∷ l) h = ap (λ (k : List Bool). false ∷ k) (lead-run n false l (le-of-suc-le-suc h))
+
+pub run-lead : (n : ℕ) (b : Bool) (e : List Bool) → n ≤ lead b (replicate n b ++ e)
+run-lead zero b e = zero-le
+run-lead (suc n) b e = rw (beq-self b) (suc-le-suc (run-lead n b e))
+
+-- zeros before a 1 are the zeros of the front
+lead-stop : (c z : List Bool) → lead false (c ++ (true ∷ z)) ≡ lead false c
+lead-stop [] z = refl
+lead-stop (true ∷ c) z = refl
+lead-stop (false ∷ c) z = ap suc (lead-stop c z)
+
+norun-one : (n : ℕ) (c : List Bool) → NoRun (suc n) false c → NoRun (suc n) false (true ∷ c)
+norun-one n c q [] e p = true≢false (head-eq-of-cons-eq p)
+norun-one n c q (y ∷ d) e p = q d e (tail-eq-of-cons-eq p)
+
+norun-zero : (n : ℕ) (c : List Bool) → NoRun n false c → suc (lead false c) < n → NoRun n false (false ∷ c)
+norun-zero n c q h [] e p =
+    let k : n ≤ lead false (false ∷ c) = subst⁻¹ (λ (m : List Bool). n ≤ lead false m) p (run-lead n false e) in
+    omega arith
+norun-zero n c q h (y ∷ d) e p = q d e (tail-eq-of-cons-eq p)
+
+-- n 0s at the front: not on
+zeros-off : (n : ℕ) (l : List Bool) → suc n ≤ lead false l → On (suc n) l → ⊥
+zeros-off n l h o =
+    let k : suc n ≤ lead false (o .since) = rw (← (lead-stop (o .since) (replicate n true ++ o .before)), ← (o .is)) h in
+    o .none [] (drop (suc n) (o .since)) (lead-run (suc n) false (o .since) k)
+
+-- the filter after the bits, and what is known of it
+record Known (n : ℕ) (l : List Bool) (s : Filter) : Type 0 where
+  run-is : s .run ≡ lead (not (s .on)) l
+  small : s .run < n
+  up : s .on ≡ true → On n l
+  down : s .on ≡ false → On n l → ⊥
+
+-- off stays off where the front is no n 1s
+off-cons : (n : ℕ) (x : Bool) (l : List Bool) → (On (suc n) l → ⊥) → ((a : List Bool) → x ∷ l ≡ replicate (suc n) true ++ a → ⊥)
+    → (c a : List Bool) → x ∷ l ≡ c ++ (replicate (suc n) true ++ a) → NoRun (suc n) false c → ⊥
+off-cons n x l k first [] a p q = first a p
+off-cons n x l k first (y ∷ c) a p q =
+    k (record { since = c; before = a; is = tail-eq-of-cons-eq p; none = λ d e r. q (y ∷ d) e (ap (λ (m : List Bool). y ∷ m) r) })
+
+norun-nil : (n : ℕ) → NoRun (suc n) false []
+norun-nil n [] e p = nil≢cons p
+norun-nil n (y ∷ d) e p = nil≢cons p
+
+-- a 0 while on, a 1 while off: t says whether it is the n-th
+zero-while-on : (n : ℕ) (l : List Bool) (r : ℕ) (t : Bool) → eqb (upOf r (suc n)) (suc n) ≡ t → Known (suc n) l (record { on = true; run = r })
+    → Known (suc n) (false ∷ l) (cond t (record { on = false; run = 0 }) (record { on = true; run = upOf r (suc n) }))
+zero-while-on n l r true e k =
+    let u : upOf r (suc n) ≡ r + 1 = up-plain r (suc n) (k .small) in
+    let z : upOf r (suc n) ≡ suc n = eqb-true _ _ e in
+    let h : suc n ≤ r + 1 = omega arith in
+    record {
+      run-is = refl;
+      small = suc-le-suc zero-le;
+      up = λ z. absurd (false≢true z);
+      down = λ _. zeros-off n (false ∷ l) (omega (arith, k .run-is, h));
+    }
+zero-while-on n l r false e k =
+    let u : upOf r (suc n) ≡ r + 1 = up-plain r (suc n) (k .small) in
+    let d = eqb-false (upOf r (suc n)) (suc n) e in
+    let h : r + 1 < suc n = omega (arith, d, k .small) in
+    let o : On (suc n) l = k .up refl in
+    let z : lead false l ≡ lead false (o .since) = ap (lead false) (o .is) ∙ lead-stop (o .since) (replicate n true ++ o .before) in
+    record {
+      run-is = omega (arith, k .run-is);
+      small = omega arith;
+      up = λ _. record {
+        since = false ∷ o .since;
+        before = o .before;
+        is = ap (λ (m : List Bool). false ∷ m) (o .is);
+        none = norun-zero (suc n) (o .since) (o .none) (omega (arith, k .run-is, z, h));
+      };
+      down = λ x. absurd (true≢false x);
+    }
+
+one-while-off : (n : ℕ) (l : List Bool) (r : ℕ) (t : Bool) → eqb (upOf r (suc n)) (suc n) ≡ t → Known (suc n) l (record { on = false; run = r })
+    → Known (suc n) (true ∷ l) (cond t (record { on = true; run = 0 }) (record { on = false; run = upOf r (suc n) }))
+one-while-off n l r true e k =
+    let u : upOf r (suc n) ≡ r + 1 = up-plain r (suc n) (k .small) in
+    let z : upOf r (suc n) ≡ suc n = eqb-true _ _ e in
+    let h : suc n ≤ r + 1 = omega arith in
+    record {
+      run-is = refl;
+      small = suc-le-suc zero-le;
+      up = λ _. record {
+        since = [];
+        before = drop (suc n) (true ∷ l);
+        is = lead-run (suc n) true (true ∷ l) (omega (arith, k .run-is, h));
+        none = norun-nil n;
+      };
+      down = λ x. absurd (true≢false x);
+    }
+one-while-off n l r false e k =
+    let u : upOf r (suc n) ≡ r + 1 = up-plain r (suc n) (k .small) in
+    let d = eqb-false (upOf r (suc n)) (suc n) e in
+    let h : r + 1 < suc n = omega (arith, d, k .small) in
+    record {
+      run-is = omega (arith, k .run-is);
+      small = omega arith;
+      up = λ z. absurd (false≢true z);
+      down = λ _ o. off-cons n true l (k .down refl)
+          (λ a p. let z : suc n ≤ lead true (true ∷ l) = subst⁻¹ (λ (m : List Bool). suc n ≤ lead true m) p (run-lead (suc n) true a) in omega (arith, k .run-is, h, z))
+          (o .since) (o .before) (o .is) (o .none);
+    }
+
+known-step : (n : ℕ) (l : List Bool) (o : Bool) (r : ℕ) (x : Bool) → Known (suc n) l (record { on = o; run = r })
+    → Known (suc n) (x ∷ l) (filterOf (record { on = o; run = r }) (suc n) false x)
+unfolding filterOf
+known-step n l true r true k = record {
+  run-is = refl;
+  small = suc-le-suc zero-le;
+  up = λ e. let o : On (suc n) l = k .up refl in
+      record { since = true ∷ o .since; before = o .before; is = ap (λ (m : List Bool). true ∷ m) (o .is); none = norun-one n (o .since) (o .none) };
+  down = λ e. absurd (true≢false e);
+}
+known-step n l true r false k = zero-while-on n l r (eqb (upOf r (suc n)) (suc n)) refl k
+known-step n l false r true k = one-while-off n l r (eqb (upOf r (suc n)) (suc n)) refl k
+known-step n l false r false k = record {
+  run-is = refl;
+  small = suc-le-suc zero-le;
+  up = λ z. absurd (false≢true z);
+  down = λ _ o. off-cons n false l (k .down refl) (λ a p. false≢true (head-eq-of-cons-eq p)) (o .since) (o .before) (o .is) (o .none);
+}
+
+off-start : (n : ℕ) → On (suc n) [] → ⊥
+off-start n o = go (o .since) (o .is)
+  where
+    go : (c : List Bool) → [] ≡ c ++ (replicate (suc n) true ++ o .before) → ⊥
+    go [] p = nil≢cons p
+    go (y ∷ c) p = nil≢cons p
+
+known-none : (n : ℕ) → Known (suc n) [] quiet
+known-none n = record { run-is = refl; small = suc-le-suc zero-le; up = λ z. absurd (false≢true z); down = λ _. off-start n }
+
+filter-forgets : (f : Filter) (n : ℕ) (x : Bool) → filterOf f n true x ≡ quiet
+unfolding filterOf
+filter-forgets f n x = refl
+
+-- one more, by whether it forgets
+known-given : (n : ℕ) (l : List Bool) (f : Filter) (g : Given) → Known (suc n) l f
+    → Known (suc n) (cond (g .forget) [] (g .bit ∷ l)) (filterOf f (suc n) (g .forget) (g .bit))
+known-given n l f g k = by-forget (g .forget)
+  where
+    by-forget : (t : Bool) → Known (suc n) (cond t [] (g .bit ∷ l)) (filterOf f (suc n) t (g .bit))
+    by-forget true = rw (filter-forgets f (suc n) (g .bit)) (known-none n)
+    by-forget false = known-step n l (f .on) (f .run) (g .bit) k
+
+known : (n : ℕ) (gs : List Given) → Known (suc n) (bitsSince gs) (filterAfter (suc n) gs)
+unfolding filterAfter bitsSince
+known n [] = known-none n
+known n (g ∷ gs) = known-given n (bitsSince gs) (filterAfter (suc n) gs) g (known n gs)
+
+bool-cases : (b : Bool) → (b ≡ false → ⊥) → b ≡ true
+bool-cases true f = refl
+bool-cases false f = absurd (f refl)
+
+-- the filter of n after any frames
+pub filter-on : (n : ℕ) (gs : List Given) → (filterAfter (suc n) gs .on ≡ true) ↔ On (suc n) (bitsSince gs)
+filter-on n gs = (known n gs .up, λ o. bool-cases _ (λ e. known n gs .down e o))
