@@ -1,2 +1,3 @@
 pub mod Alignment
 pub mod Since
+pub mod Framed

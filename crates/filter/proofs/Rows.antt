@@ -66,7 +66,7 @@ pub takes-over : (n : ℕ) → TakesOver (suc n)
 takes-over n f bit = ⊎-elim (λ e. e) (λ w. absurd (omega (arith, w .0, w .1))) (fed-counted (suc n) bit n f)
 
 -- a counter that has come to m comes to m + 1, unless that is beyond its bound
-up-from : (m run n : ℕ) → m ≤ run → m < n → suc m ≤ upOf run n
+pub up-from : (m run n : ℕ) → m ≤ run → m < n → suc m ≤ upOf run n
 unfolding upOf
 up-from m run n h k = by-cond (λ (x : ℕ). suc m ≤ x) (ltb run n) (λ _. omega arith) (λ _. omega arith)
 
