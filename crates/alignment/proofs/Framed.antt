@@ -13,29 +13,11 @@ use Rattle.filter.specs.Since.{NoRun}
 use mathlib.Core.Logic.{_⊎_, inl, inr, ⊎-elim}
 use Rattle.filter.proofs.Bounds.{up-plain, up-most}
 use Rattle.filter.proofs.Rows.{up-from}
-use Rattle.filter.proofs.Since.{lead, lead-run, run-lead}
+use Rattle.filter.proofs.Since.{lead, lead-run}
+use Rattle.alignment.proofs.Runs.{no-tail, no-lead, no-more, no-nil}
 use Rattle.alignment.specs.declared.Framing.{Framing}
 use Rattle.alignment.specs.Alignment.{framingOf}
 use Rattle.alignment.specs.Framed.{Signs, four, threeIn, Framed, since-start, since-five, since-two, framingAfter, FramingIs}
-
--- no n in a row: of the tail, and of one more
-no-tail : (n : ℕ) (b x : Bool) (l : List Bool) → NoRun n b (x ∷ l) → NoRun n b l
-no-tail n b x l q d e p = q (x ∷ d) e (ap (λ (m : List Bool). x ∷ m) p)
-
-no-lead : (n : ℕ) (b : Bool) (l : List Bool) → NoRun n b l → lead b l < n
-no-lead n b l q = by-t (leb n (lead b l)) refl
-  where
-    by-t : (t : Bool) → leb n (lead b l) ≡ t → lead b l < n
-    by-t true e = absurd (q [] (drop n l) (lead-run n b l (leb-true _ _ e)))
-    by-t false e = leb-false _ _ e
-
-no-more : (n : ℕ) (b x : Bool) (l : List Bool) → lead b (x ∷ l) < n → NoRun n b l → NoRun n b (x ∷ l)
-no-more n b x l h q [] e p = let a : n ≤ lead b (x ∷ l) = subst⁻¹ (λ (m : List Bool). n ≤ lead b m) p (run-lead n b e) in omega arith
-no-more n b x l h q (y ∷ d) e p = q d e (tail-eq-of-cons-eq p)
-
-no-nil : (n : ℕ) (b : Bool) → NoRun (suc n) b []
-no-nil n b [] e p = nil≢cons p
-no-nil n b (y ∷ d) e p = nil≢cons p
 
 -- the steps, case by case
 abbrev lost : Bool → Framing

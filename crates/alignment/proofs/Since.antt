@@ -14,6 +14,7 @@ use Rattle.filter.specs.Filter.{upOf}
 use Rattle.filter.specs.Since.{NoRun}
 use Rattle.filter.proofs.Bounds.{up-plain, up-most}
 use Rattle.filter.proofs.Since.{lead, lead-run, run-lead}
+use Rattle.alignment.proofs.Runs.{no-nil}
 use Rattle.alignment.specs.declared.Lof.{Lof}
 use Rattle.alignment.specs.Alignment.{lofOf, lomOf}
 use Rattle.alignment.specs.Since.{oofs, Reset, start, cleared, Cut, lofAfter, LofIs, lomAfter, AllOut}
@@ -51,17 +52,13 @@ cut-more n x l h k = record {
   none = longer n x l h k;
 }
 
-norun-nil : (n : ℕ) → NoRun (suc n) true []
-norun-nil n [] e p = nil≢cons p
-norun-nil n (y ∷ d) e p = nil≢cons p
-
 cut-here : (n : ℕ) (l : List Bool) → suc n ≤ lead true l → Cut (suc n) l
 cut-here n l h = record {
   since = [];
   rest = l;
   is = refl;
   reset = subst⁻¹ (Reset (suc n)) (lead-run (suc n) true l h) (cleared (drop (suc n) l));
-  none = norun-nil n;
+  none = no-nil n true;
 }
 
 -- the counters: the frames in a row in IF, and the frames in OOF since the cut, each n at most
@@ -100,7 +97,7 @@ kept-step n l s false k = in-OOF n l s k
 
 kept : (n : ℕ) (l : List Bool) → Kept (suc n) l (lofAfter (suc n) l)
 unfolding lofAfter
-kept n [] = record { good = omega arith; cut = record { since = []; rest = []; is = refl; reset = start; none = norun-nil n }; total = omega arith }
+kept n [] = record { good = omega arith; cut = record { since = []; rest = []; is = refl; reset = start; none = no-nil n true }; total = omega arith }
 kept n (x ∷ l) = kept-step n l (lofAfter (suc n) l) x (kept n l)
 
 -- the stopped count is n exactly where the plain one is at least n
