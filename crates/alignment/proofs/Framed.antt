@@ -202,8 +202,10 @@ from-out x l s k = by-two (four x && firstOf (map four (k .late))) refl
   where
     o : s .inframe ≡ false
     o = rw (k .state)
+
     v : s .seen ≡ firstOf (map four (k .late))
     v = rw (k .state)
+
     by-two : (t : Bool) → (four x && firstOf (map four (k .late))) ≡ t → Known (x ∷ l) (framingOf s (four x) (x .three))
     by-two true e =
         inr (enters x l _ (k .late) (k .base) (k .is) (k .none) (k .out) (both-left (four x) (firstOf (map four (k .late))) e) (both-right (four x) (firstOf (map four (k .late))) e)
@@ -242,7 +244,7 @@ leaves x l s t k e h st =
     let g : List Signs = drop 4 (k .late) ++ (k .b ∷ (k .a ∷ k .g)) in
     let two : Framed true (k .late ++ (k .b ∷ (k .a ∷ k .g))) = since-two (k .late) (k .b) (k .a) (k .g) (k .none) (k .og) (k .oa) (k .ea) (k .eb) in
     let join : k .late ++ (k .b ∷ (k .a ∷ k .g)) ≡ m ++ g =
-        ap (λ (z : List Signs). z ++ (k .b ∷ (k .a ∷ k .g))) (sym (take-append-drop 4 (k .late))) ∙ append-assoc m (drop 4 (k .late)) (k .b ∷ (k .a ∷ k .g)) in
+    ap (λ (z : List Signs). z ++ (k .b ∷ (k .a ∷ k .g))) (sym (take-append-drop 4 (k .late))) ∙ append-assoc m (drop 4 (k .late)) (k .b ∷ (k .a ∷ k .g)) in
     let four-bad : map threeIn m ≡ replicate 4 false = map-take 4 (k .late) ∙ ap (take 4) (lead-run 4 false (map threeIn (k .late)) h) in
     let five-bad : map threeIn (x ∷ m) ≡ replicate 5 false = ap (λ (z : Bool). z ∷ map threeIn m) e ∙ ap (λ (z : List Bool). false ∷ z) four-bad in
     record {
@@ -259,20 +261,26 @@ from-in x l s k = by-three (x .three) refl
   where
     r : ℕ
     r = lead false (map threeIn (k .late))
+
     small : r < 5
     small = no-lead 5 false (map threeIn (k .late)) (k .none)
+
     o : s .inframe ≡ true
     o = rw (k .state)
+
     n : s .misses ≡ r
     n = rw (k .state)
+
     u : upOf (s .misses) 5 ≡ r + 1
     u = rw n (up-plain r 5 small)
+
     by-five : x .three ≡ false → (t : Bool) → eqb (upOf (s .misses) 5) 5 ≡ t → Known (x ∷ l) (framingOf s (four x) (x .three))
     by-five e true f = let z : upOf (s .misses) 5 ≡ 5 = eqb-true _ _ f in inl (leaves x l s _ k e (omega (arith, u, z)) (fifth-in s x o e z))
     by-five e false f =
         let d = eqb-false (upOf (s .misses) 5) 5 f in
         let w : lead false (x .three ∷ map threeIn (k .late)) ≡ suc r = rw e in
         inr (goes-on x l s _ k (omega (arith, w, u, d, small)) (bad-in s x o e f ∙ ap found (omega (arith, w, u))))
+
     by-three : (t : Bool) → x .three ≡ t → Known (x ∷ l) (framingOf s (four x) (x .three))
     by-three true e =
         let w : lead false (x .three ∷ map threeIn (k .late)) ≡ 0 = rw e in
@@ -288,11 +296,11 @@ stands : (l : List Signs) → Framed (framingAfter l .inframe) l
 stands l =
     ⊎-elim
     (λ (k : OutKnown l (framingAfter l)).
-        let e : framingAfter l .inframe ≡ false = ap (λ (z : Framing). z .inframe) (k .state) in
-        subst⁻¹ (λ (b : Bool). Framed b l) e (subst⁻¹ (Framed false) (k .is) (k .out (k .late) (k .none))))
+    let e : framingAfter l .inframe ≡ false = ap (λ (z : Framing). z .inframe) (k .state) in
+    subst⁻¹ (λ (b : Bool). Framed b l) e (subst⁻¹ (Framed false) (k .is) (k .out (k .late) (k .none))))
     (λ (k : InKnown l (framingAfter l)).
-        let e : framingAfter l .inframe ≡ true = ap (λ (z : Framing). z .inframe) (k .state) in
-        subst⁻¹ (λ (b : Bool). Framed b l) e (subst⁻¹ (Framed true) (k .is) (since-two (k .late) (k .b) (k .a) (k .g) (k .none) (k .og) (k .oa) (k .ea) (k .eb))))
+    let e : framingAfter l .inframe ≡ true = ap (λ (z : Framing). z .inframe) (k .state) in
+    subst⁻¹ (λ (b : Bool). Framed b l) e (subst⁻¹ (Framed true) (k .is) (since-two (k .late) (k .b) (k .a) (k .g) (k .none) (k .og) (k .oa) (k .ea) (k .eb))))
     (known l)
 
 pub framing-is : (l : List Signs) → FramingIs l

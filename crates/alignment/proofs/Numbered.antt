@@ -110,6 +110,7 @@ one-in m x l h = by (x .looked) refl
         let u : upOf (lead false (matched m l)) 5 ≡ lead false (matched m l) + 1 = up-plain (lead false (matched m l)) 5 (omega (arith, w)) in
         in-miss (inOf m l) x refl e f (ne-eqb (upOf (lead false (matched m l)) 5) 5 (λ p. omega (arith, p, w, u)))
         ∙ ap (lockedAt (numberAfter m (x ∷ l))) (omega (arith, w, u))
+
     by : (t : Bool) → x .looked ≡ t → multiOf (inOf m l) (x .looked) (x .mfas) ≡ inOf m (x ∷ l)
     by true e = by-match e (eqb (x .mfas) (numberAfter m (x ∷ l))) refl
     by false e = in-unlooked (inOf m l) x refl e ∙ rw e
@@ -180,6 +181,7 @@ from-out x l s k = by (follows x l) refl
   where
     now : multiOf s (x .looked) (x .mfas) ≡ multiOf (outOf l) (x .looked) (x .mfas)
     now = ap (λ (z : Multi). multiOf z (x .looked) (x .mfas)) (k .state)
+
     by : (t : Bool) → follows x l ≡ t → Known (x ∷ l) (multiOf s (x .looked) (x .mfas))
     by true e =
         inr (record {
@@ -207,13 +209,16 @@ from-in x l s k = by (leb 5 (lead false (matched m (x ∷ k .late)))) refl
   where
     m : ℕ
     m = k .b .mfas
+
     now : multiOf s (x .looked) (x .mfas) ≡ multiOf (inOf (k .b .mfas) (k .late)) (x .looked) (x .mfas)
     now = ap (λ (z : Multi). multiOf z (x .looked) (x .mfas)) (k .state)
+
     looked : 5 ≤ lead false (matched (k .b .mfas) (x ∷ k .late)) → (t : Bool) → x .looked ≡ t → t ≡ true
     looked h true e = refl
     looked h false e =
         let z : lead false (matched (k .b .mfas) (x ∷ k .late)) ≡ lead false (matched (k .b .mfas) (k .late)) = rw e in
         absurd (omega (arith, h, z, no-lead 5 false (matched (k .b .mfas) (k .late)) (k .none)))
+
     by : (t : Bool) → leb 5 (lead false (matched (k .b .mfas) (x ∷ k .late))) ≡ t → Known (x ∷ l) (multiOf s (x .looked) (x .mfas))
     by true e =
         let h : 5 ≤ lead false (matched (k .b .mfas) (x ∷ k .late)) = leb-true _ _ e in
@@ -252,10 +257,10 @@ stands : (l : List Look) → Numbered (placeOf (multiAfter l)) l
 stands l =
     ⊎-elim
     (λ (k : OutKnown l (multiAfter l)).
-        subst⁻¹ (λ (p : Place). Numbered p l) (out-of l (k .state)) (subst⁻¹ (Numbered out) (k .is) (k .stays (k .late) (k .none))))
+    subst⁻¹ (λ (p : Place). Numbered p l) (out-of l (k .state)) (subst⁻¹ (Numbered out) (k .is) (k .stays (k .late) (k .none))))
     (λ (k : InKnown l (multiAfter l)).
-        subst⁻¹ (λ (p : Place). Numbered p l) (ap placeOf (k .state))
-        (subst⁻¹ (Numbered (number (numberAfter (k .b .mfas) (k .late)))) (k .is) (since-two (k .late) (k .b) (k .g) (k .met) (k .after) (k .none))))
+    subst⁻¹ (λ (p : Place). Numbered p l) (ap placeOf (k .state))
+    (subst⁻¹ (Numbered (number (numberAfter (k .b .mfas) (k .late)))) (k .is) (since-two (k .late) (k .b) (k .g) (k .met) (k .after) (k .none))))
     (known l)
 
 -- out of multiframe, the state is that of the last frame
@@ -279,7 +284,7 @@ says p l (since-five k f m b g rest n o a q v five) =
     let e : multiAfter g ≡ outOf g = out-state g (says out g o) in
     let i : multiAfter (m ++ (b ∷ g)) ≡ inOf (b .mfas) m = in-run (b .mfas) (b ∷ g) m (ap (λ (z : Multi). multiOf z (b .looked) (b .mfas)) e ∙ enters b g a) q in
     let u : multiAfter (f ∷ (m ++ (b ∷ g))) ≡ outOf (f ∷ (m ++ (b ∷ g))) =
-        ap (λ (z : Multi). multiOf z (f .looked) (f .mfas)) i ∙ five-out (b .mfas) f m rest q v five ∙ rw v in
+    ap (λ (z : Multi). multiOf z (f .looked) (f .mfas)) i ∙ five-out (b .mfas) f m rest q v five ∙ rw v in
     out-of (k ++ (f ∷ (m ++ (b ∷ g)))) (out-run (f ∷ (m ++ (b ∷ g))) k u n)
 
 pub multi-is : (l : List Look) → MultiIs l

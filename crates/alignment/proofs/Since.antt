@@ -74,6 +74,7 @@ in-IF n l s t e k = by-t t e
   where
     g : upOf (s .good) (suc n) ≡ min (suc n) (lead true l + 1)
     g = rw (k .good) (up-min (suc n) (lead true l))
+
     by-t : (t : Bool) → eqb (upOf (s .good) (suc n)) (suc n) ≡ t → Kept (suc n) (true ∷ l) (record { total = cond t 0 (s .total); good = upOf (s .good) (suc n) })
     by-t true e =
         let z : upOf (s .good) (suc n) ≡ suc n = eqb-true _ _ e in
@@ -119,6 +120,7 @@ lom-run n (false ∷ l) = rw (lom-run n l) (omega (arith, up-min n (lead false l
 
 -- dLOM: the last n frames were all in OOM
 pub lom-is : (n : ℕ) (l : List Bool) → (lomAfter n l ≡ n) ↔ AllOut n l
-lom-is n l =
-    (λ e. record { before = drop n l; is = lead-run n false l (omega (arith, lom-run n l)) },
-    λ o. let h : n ≤ lead false l = subst⁻¹ (λ (m : List Bool). n ≤ lead false m) (o .is) (run-lead n false (o .before)) in omega (arith, lom-run n l))
+lom-is n l = (
+  λ e. record { before = drop n l; is = lead-run n false l (omega (arith, lom-run n l)) },
+  λ o. let h : n ≤ lead false l = subst⁻¹ (λ (m : List Bool). n ≤ lead false m) (o .is) (run-lead n false (o .before)) in omega (arith, lom-run n l),
+)

@@ -1,4 +1,5 @@
 pub mod Bounds
 pub mod Rows
 pub mod Since
+pub mod Stood
 pub mod Unique

@@ -2,3 +2,4 @@ pub mod Filter
 pub mod Stat
 pub mod Rows
 pub mod Since
+pub mod Stood
