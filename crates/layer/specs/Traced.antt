@@ -1,0 +1,81 @@
+-- The accepted trace, said without a counter or a buffer: the 64 bytes that last stood in three whole cycles in a row since the last
+-- forgetting. A list of frames has the latest first. Assumes nothing.
+use mathlib.Core.Path.{_≡_}
+use mathlib.Core.Bool.{Bool, true, false, cond, _&&_}
+use mathlib.Core.List.{List, [], _∷_, _++_}
+use Prim.Native.Nat.{ℕ, zero, suc, _+_, _%_}
+use lib.Dec.{eqb}
+use lib.ListN.{drop}
+use Rattle.layer.specs.declared.Layer.{Layer}
+use Rattle.layer.specs.Layer.{sameTrace, traceOf, freshLayer}
+
+-- what a layer is given in a frame for its trace: to forget, IM or OOM, the local number, the TTI byte
+pub record Turn : Type 0 where
+  pub forget : Bool
+  pub inmulti : Bool
+  pub number : ℕ
+  pub tti : ℕ
+
+-- "TTI byte number is the local number modulo 64": the frame is in IM and has TTI byte number n
+abbrev pub has : Turn → ℕ → Bool
+has x n = x .inmulti && eqb (x .number % 64) n
+
+-- the latest n + 1 frames have the TTI byte numbers n, n - 1, .., 0, all in IM
+unfoldable pub down : List Turn → ℕ → Bool
+down [] n = false
+down (x ∷ l) zero = has x 0
+down (x ∷ l) (suc n) = has x (suc n) && down l n
+
+-- "A cycle is 64 frames, all in IM, from number 0 to 63": one ends at the latest frame
+abbrev pub cycle : List Turn → Bool
+cycle l = down l 63
+
+-- the TTI bytes of the latest n frames, in the order in which they came
+unfoldable pub bytes : List Turn → ℕ → List ℕ
+bytes l zero = []
+bytes [] (suc n) = []
+bytes (x ∷ l) (suc n) = bytes l n ++ (x .tti ∷ [])
+
+-- the cycles that end here and 64 frames earlier are alike
+abbrev pub alike : List Turn → Bool
+alike l = sameTrace (bytes l 64) (bytes (drop 64 l) 64)
+
+-- "Three equal cycles in a row": one ends here, one 64 frames earlier and one 128 frames earlier, and all are alike
+abbrev pub third : List Turn → Bool
+third l = (cycle l && cycle (drop 64 l) && cycle (drop 64 (drop 64 l))) && (alike l && alike (drop 64 l))
+
+pub data Found : Type 0 where
+  none : Found
+  trace : List ℕ → Found
+
+-- "Three equal cycles in a row are accepted at the last frame of the third": its bytes, or otherwise what stood a frame earlier
+unfoldable pub acceptedBy : List Turn → Found
+acceptedBy [] = none
+acceptedBy (x ∷ l) = cond (third (x ∷ l)) (trace (bytes (x ∷ l) 64)) (acceptedBy l)
+
+-- the frames since the last one that forgot
+unfoldable pub turnsSince : List Turn → List Turn
+turnsSince [] = []
+turnsSince (x ∷ l) = cond (x .forget) [] (x ∷ turnsSince l)
+
+-- the state of the definitions after the frames
+unfoldable pub traceAfter : List Turn → Layer
+traceAfter [] = freshLayer
+traceAfter (x ∷ l) = traceOf (traceAfter l) (x .forget) (x .inmulti) (x .number) (x .tti)
+
+abbrev pub foundIn : Layer → Found
+foundIn s = cond (s .known) (trace (s .accepted)) none
+
+-- "In IM the local number grows by 1 modulo 256 each frame": of the frame x, after the frames l
+abbrev pub Grows : Turn → List Turn → Type 0
+Grows x [] = Unit {0}
+Grows x (a ∷ l) = a .inmulti ≡ true → x .inmulti ≡ true → x .number ≡ (a .number + 1) % 256
+
+-- and of all the frames
+abbrev pub Steady : List Turn → Type 0
+Steady [] = Unit {0}
+Steady (x ∷ l) = Grows x l × Steady l
+
+-- the law
+abbrev pub TraceIs : List Turn → Type 0
+TraceIs l = Steady l → foundIn (traceAfter l) ≡ acceptedBy (turnsSince l)
