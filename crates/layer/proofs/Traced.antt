@@ -7,13 +7,14 @@ use mathlib.Core.Logic.{_⊎_, inl, inr, ⊎-elim}
 use native.Mathlib.Omega.{arith}
 use borrow.Author.Tests.{eqb-true, eqb-false, eq-eqb, ne-eqb}
 use lib.Dec.{eqb}
-use lib.ListN.{length, take, drop, set, length-set, length-replicate}
-use lib.Seq.{take-suc-set, take-all}
+use lib.ListN.{length, take, drop, set, length-append, length-set, length-replicate}
+use lib.Seq.{take-suc-set, take-all, drop-drop}
 use Rattle.answer.proofs.Cond.{by-cond, and-left, and-right}
 use Rattle.filter.specs.Filter.{upOf}
+use Rattle.layer.proofs.Same.{same-in, same-trace}
 use Rattle.layer.specs.declared.Layer.{Layer}
-use Rattle.layer.specs.Layer.{sameTrace, withTrace, equalOf, closedOf, gatheredAt, byteOf, traceOf, freshLayer}
-use Rattle.layer.specs.Traced.{Turn, has, down, cycle, bytes, alike, third, Found, none, trace, acceptedBy, turnsSince, traceAfter, foundIn, Grows, Steady, TraceIs}
+use Rattle.layer.specs.Layer.{sameTrace, withTrace, equalOf, closedOf, gatheredAt, byteOf, traceOf, comparedOf, timOf, freshLayer}
+use Rattle.layer.specs.Traced.{Turn, has, down, cycle, bytes, alike, third, Found, none, trace, acceptedBy, turnsSince, traceAfter, foundIn, Grows, Steady, timBy, TraceIs, TimIs}
 
 -- how many alike in a row have ended at the latest frame, and 3 at most
 runs : List Turn → ℕ
@@ -21,9 +22,9 @@ runs l = cond (cycle l) (cond (cycle (drop 64 l) && alike l) (cond (cycle (drop 
 
 third-runs : (l : List Turn) → eqb (runs l) 3 ≡ third l
 unfolding runs
-third-runs l = by (cycle l) (cycle (drop 64 l)) (cycle (drop 64 (drop 64 l))) (alike l) (alike (drop 64 l))
+third-runs l = rw (← drop-drop 64 64 l) (by (cycle l) (cycle (drop 64 l)) (cycle (drop 64 (drop 64 l))) (alike l) (alike (drop 64 l)))
   where
-    by : (p q r a b : Bool) → eqb (cond p (cond (q && a) (cond (r && b) 3 2) 1) 0) 3 ≡ ((p && q && r) && (a && b))
+    by : (p q r a b : Bool) → eqb (cond p (cond (q && a) (cond (r && b) 3 2) 1) 0) 3 ≡ (p && (q && (r && (a && b))))
     by false q r a b = refl
     by true false r a b = refl
     by true true false a b = by-a a
@@ -34,6 +35,15 @@ third-runs l = by (cycle l) (cycle (drop 64 l)) (cycle (drop 64 (drop 64 l))) (a
     by true true true true true = refl
     by true true true true false = refl
     by true true true false b = refl
+
+-- a cycle has 64 bytes
+bytes-size : (l : List Turn) (n : ℕ) → down l n ≡ true → length (bytes l (suc n)) ≡ suc n
+unfolding down bytes
+bytes-size [] n e = absurd (false≢true e)
+bytes-size (x ∷ l) zero e = refl
+bytes-size (x ∷ l) (suc n) e =
+    let h : length (bytes l (suc n)) ≡ suc n = bytes-size l n (and-right (has x (suc n)) _ e) in
+    simp length-append (omega arith)
 
 -- a cycle more: with the gathered bytes its own, and before them what was kept of the cycle 64 frames earlier
 runs-more : (s : Layer) (l : List Turn) → cycle l ≡ true → s .gathered ≡ bytes l 64 → s .equal ≡ runs (drop 64 l)
@@ -52,7 +62,10 @@ runs-more s l c g e p = by (cycle (drop 64 l)) refl
     by-one false d c = refl
 
     by : (t : Bool) → cycle (drop 64 l) ≡ t → equalOf s ≡ runs l
-    by true h = rw (g, p h, e, c, h) (by-one (alike l) (cycle (drop 64 (drop 64 l)) && alike (drop 64 l)) (cycle (drop 64 (drop 64 (drop 64 l))) && alike (drop 64 (drop 64 l))))
+    by true h =
+        let m : List Turn = drop 64 l in
+        rw (g, p h, same-trace (bytes l 64) (bytes m 64) (bytes-size l 63 c) (bytes-size m 63 h), e, c, h)
+        (by-one (alike l) (cycle (drop 64 m) && alike m) (cycle (drop 64 (drop 64 m)) && alike (drop 64 m)))
     by false h = rw (e, c, h) (by-none (sameTrace (s .gathered) (s .previous)))
 
 -- what the latest frame has where the byte numbers go down to 0
@@ -314,3 +327,33 @@ kept (x ∷ l) h = kept-step (traceAfter l) x (turnsSince l) (grows-since x l (h
 
 pub trace-is : (l : List Turn) → TraceIs l
 trace-is l h = kept l h .found
+
+-- an accepted trace has 64 bytes
+found-size : (l : List Turn) (t : List ℕ) → acceptedBy l ≡ trace t → length t ≡ 64
+unfolding acceptedBy
+found-size [] t e = let z : _≡_ {A = ℕ} 0 1 = cc in absurd (omega arith)
+found-size (x ∷ l) t e = by (third (x ∷ l)) refl e (found-size l t)
+  where
+    by : (b : Bool) → third (x ∷ l) ≡ b → cond b (trace (bytes (x ∷ l) 64)) (acceptedBy l) ≡ trace t → (acceptedBy l ≡ trace t → length t ≡ 64) → length t ≡ 64
+    by true h e f =
+        let c : cycle (x ∷ l) ≡ true = and-left (cycle (x ∷ l)) _ h in
+        let q : bytes (x ∷ l) 64 ≡ t = cc in
+        ap length (sym q) ∙ bytes-size (x ∷ l) 63 c
+    by false h e f = f e
+
+-- the defect, by what is found
+tim-found : (s : Layer) (mode : ℕ) (names : List ℕ) → (s .known ≡ true → length (s .accepted) ≡ 64) → length names ≡ 32 → timOf s mode names ≡ timBy (foundIn s) mode names
+unfolding timOf timBy comparedOf
+tim-found s mode names z h = by (s .known) refl
+  where
+    by : (b : Bool) → s .known ≡ b → timOf s mode names ≡ timBy (foundIn s) mode names
+    by true k =
+        let a : length (s .accepted) ≡ 64 = z k in
+        rw (k, same-in 16 0 (s .accepted) names (omega arith) (omega arith), same-in 16 16 (s .accepted) names (omega arith) (omega arith))
+    by false k = rw k
+
+pub tim-is : (l : List Turn) (mode : ℕ) (names : List ℕ) → TimIs l mode names
+tim-is l mode names h n =
+    let f : foundIn (traceAfter l) ≡ acceptedBy (turnsSince l) = trace-is l h in
+    let z : traceAfter l .known ≡ true → length (traceAfter l .accepted) ≡ 64 = λ k. found-size (turnsSince l) (traceAfter l .accepted) (sym f ∙ rw k) in
+    tim-found (traceAfter l) mode names z n ∙ ap (λ (r : Found). timBy r mode names) f

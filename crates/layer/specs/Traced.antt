@@ -1,13 +1,13 @@
 -- The accepted trace, said without a counter or a buffer: the 64 bytes that last stood in three whole cycles in a row since the last
 -- forgetting. A list of frames has the latest first. Assumes nothing.
 use mathlib.Core.Path.{_≡_}
-use mathlib.Core.Bool.{Bool, true, false, cond, _&&_}
+use mathlib.Core.Bool.{Bool, true, false, cond, _&&_, _||_, not}
 use mathlib.Core.List.{List, [], _∷_, _++_}
 use Prim.Native.Nat.{ℕ, zero, suc, _+_, _%_}
 use lib.Dec.{eqb}
-use lib.ListN.{drop}
+use lib.ListN.{length, take, drop}
 use Rattle.layer.specs.declared.Layer.{Layer}
-use Rattle.layer.specs.Layer.{sameTrace, traceOf, freshLayer}
+use Rattle.layer.specs.Layer.{traceOf, timOf, freshLayer}
 
 -- what a layer is given in a frame for its trace: to forget, IM or OOM, the local number, the TTI byte
 pub record Turn : Type 0 where
@@ -36,13 +36,20 @@ bytes l zero = []
 bytes [] (suc n) = []
 bytes (x ∷ l) (suc n) = bytes l n ++ (x .tti ∷ [])
 
+-- two lists are the same
+unfoldable pub same : List ℕ → List ℕ → Bool
+same [] [] = true
+same [] (b ∷ m) = false
+same (a ∷ l) [] = false
+same (a ∷ l) (b ∷ m) = eqb a b && same l m
+
 -- the cycles that end here and 64 frames earlier are alike
 abbrev pub alike : List Turn → Bool
-alike l = sameTrace (bytes l 64) (bytes (drop 64 l) 64)
+alike l = same (bytes l 64) (bytes (drop 64 l) 64)
 
 -- "Three equal cycles in a row": one ends here, one 64 frames earlier and one 128 frames earlier, and all are alike
 abbrev pub third : List Turn → Bool
-third l = (cycle l && cycle (drop 64 l) && cycle (drop 64 (drop 64 l))) && (alike l && alike (drop 64 l))
+third l = cycle l && (cycle (drop 64 l) && (cycle (drop 128 l) && (alike l && alike (drop 64 l))))
 
 pub data Found : Type 0 where
   none : Found
@@ -76,6 +83,24 @@ abbrev pub Steady : List Turn → Type 0
 Steady [] = Unit {0}
 Steady (x ∷ l) = Grows x l × Steady l
 
--- the law
+-- "SAPI is bytes 0 to 15, DAPI 16 to 31", of a trace and of the expected names
+abbrev pub sapi : List ℕ → List ℕ
+sapi t = take 16 t
+
+abbrev pub dapi : List ℕ → List ℕ
+dapi t = take 16 (drop 16 t)
+
+-- "dTIM: a trace is accepted and the compared field differs. Mode 0 off, 1 SAPI, 2 DAPI, 3 both (either differing suffices)."
+unfoldable pub timBy : Found → ℕ → List ℕ → Bool
+timBy none mode names = false
+timBy (trace t) mode names =
+    ((eqb mode 1 || eqb mode 3) && not (same (sapi t) (sapi names)))
+    || ((eqb mode 2 || eqb mode 3) && not (same (dapi t) (dapi names)))
+
+-- the law of the accepted trace
 abbrev pub TraceIs : List Turn → Type 0
 TraceIs l = Steady l → foundIn (traceAfter l) ≡ acceptedBy (turnsSince l)
+
+-- the law of dTIM
+abbrev pub TimIs : List Turn → ℕ → List ℕ → Type 0
+TimIs l mode names = Steady l → length names ≡ 32 → timOf (traceAfter l) mode names ≡ timBy (acceptedBy (turnsSince l)) mode names
