@@ -84,8 +84,7 @@ next-number x [] n g i e = absurd (false≢true e)
 next-number x (a ∷ l) n g i e =
     let h : has a n ≡ true = down-has l a n e in
     let p : a .number % 64 ≡ n = has-number a n h in
-    let q : x .number ≡ (a .number + 1) % 256 = g (and-left (a .inmulti) _ h) i in
-    omega arith
+    omega (arith, g (and-left (a .inmulti) _ h) i)
 
 -- they go down from one number only
 down-one : (l : List Turn) (m n : ℕ) → (m ≡ n → ⊥) → down l m ≡ true → down l n ≡ false
@@ -261,16 +260,16 @@ from-amid s x l p w i g f k =
     by false = refl
 
 -- a frame in OOM
-out-kept : (s : Layer) (x : Turn) (l : List Turn) → x .inmulti ≡ false → length (s .gathered) ≡ 64 → foundIn s ≡ acceptedBy l
-    → Kept (x ∷ l) (withTrace s (s .accepted) (s .gathered) (s .previous) (s .known) false 0)
+out-kept : (t : Layer) (x : Turn) (l : List Turn) → x .inmulti ≡ false → t .gathering ≡ false → t .equal ≡ 0 → length (t .gathered) ≡ 64
+    → foundIn t ≡ acceptedBy l → Kept (x ∷ l) t
 unfolding down runs bytes
-out-kept s x l o z f =
+out-kept t x l o g e z f =
     record {
       found = f ∙ sym (no-end x l (none-down 63));
       place = inl (record {
-        gathering = refl;
+        gathering = g;
         outside = λ n h. none-down n;
-        got = record { size = z; front = refl; equal = sym y; previous = λ h. absurd (true≢false (sym h ∙ none-down 63)) };
+        got = record { size = z; front = refl; equal = e ∙ sym y; previous = λ h. absurd (true≢false (sym h ∙ none-down 63)) };
       });
     }
   where
@@ -303,12 +302,12 @@ unfolding traceOf
 kept-step s x l g k = by (x .forget) (x .inmulti) refl
   where
     by : (t u : Bool) → x .inmulti ≡ u → Kept (cond t [] (x ∷ l)) (traceOf s t u (x .number) (x .tti))
-    by true u i = none-kept (withTrace s (s .accepted) (s .gathered) (s .previous) false false 0) refl refl refl (size-of l s k)
+    by true u i = none-kept (traceOf s true u (x .number) (x .tti)) refl refl refl (size-of l s k)
     by false true i =
         ⊎-elim (λ (q : Still l s). from-still s x l (x .number % 64) refl i g (k .found) q)
         (λ (q : Amid l s). from-amid s x l (x .number % 64) refl i g (k .found) q)
         (k .place)
-    by false false i = out-kept s x l i (size-of l s k) (k .found)
+    by false false i = out-kept (traceOf s false false (x .number) (x .tti)) x l i refl refl (size-of l s k) (k .found)
 
 -- the number grows since the last frame that forgot
 grows-since : (x : Turn) (l : List Turn) → Grows x l → Grows x (turnsSince l)
