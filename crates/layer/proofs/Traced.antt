@@ -2,19 +2,19 @@
 use mathlib.Core.Path.{_≡_, refl, ap, sym, _∙_, subst, subst⁻¹}
 use mathlib.Core.Bool.{Bool, true, false, cond, _&&_, _||_, true≢false, false≢true}
 use mathlib.Core.List.{List, [], _∷_, _++_}
-use Prim.Native.Nat.{ℕ, zero, suc, _+_, _%_, _≤_, _<_}
+use Prim.Native.Nat.{ℕ, zero, suc, _%_, _<_}
 use mathlib.Core.Logic.{_⊎_, inl, inr, ⊎-elim}
 use native.Mathlib.Omega.{arith}
 use borrow.Author.Tests.{eqb-true, eqb-false, eq-eqb, ne-eqb}
 use lib.Dec.{eqb}
-use lib.ListN.{length, take, drop, set, length-append, length-set, length-replicate}
+use lib.ListN.{length, take, drop, length-append, length-set, length-replicate}
 use lib.Seq.{take-suc-set, take-all, drop-drop}
 use Rattle.answer.proofs.Cond.{by-cond, and-left, and-right}
 use Rattle.filter.specs.Filter.{upOf}
 use Rattle.layer.proofs.Same.{same-in, same-trace}
 use Rattle.layer.specs.declared.Layer.{Layer}
 use Rattle.layer.specs.Layer.{sameTrace, withTrace, equalOf, closedOf, gatheredAt, byteOf, traceOf, comparedOf, timOf, freshLayer}
-use Rattle.layer.specs.Traced.{Turn, has, down, cycle, bytes, alike, third, Found, none, trace, acceptedBy, turnsSince, traceAfter, foundIn, Grows, Steady, timBy, TraceIs, TimIs}
+use Rattle.layer.specs.Traced.{Turn, has, down, cycle, bytes, alike, third, Found, trace, acceptedBy, turnsSince, traceAfter, foundIn, Grows, Steady, timBy, TraceIs, TimIs}
 
 -- how many alike in a row have ended at the latest frame, and 3 at most
 runs : List Turn → ℕ
