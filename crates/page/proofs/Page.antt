@@ -1,18 +1,19 @@
 -- Every rule of document 01 by the history alone. Assumes nothing.
 use mathlib.Core.Path.{_≡_, refl, ap, sym, _∙_, subst, subst⁻¹}
 use mathlib.Core.Logic.{_↔_}
-use mathlib.Core.Bool.{Bool, true, false, cond, _&&_, _||_}
+use mathlib.Core.Bool.{Bool, true, false, cond, _&&_, _||_, false≢true}
 use mathlib.Core.List.{List, [], _∷_, map}
-use Prim.Native.Nat.{ℕ, zero, suc, _%_, _<_, _≤_}
+use Prim.Native.Nat.{ℕ, zero, suc, _+_, _%_, _<_, _≤_}
 use native.Mathlib.Omega.{arith}
 use native.Mathlib.Nat.{not-suc-le-zero}
 use borrow.Author.Tests.{eqb-true, eq-eqb}
 use lib.Dec.{leb, eqb}
+use lib.ListN.{length}
 use Rattle.answer.proofs.Cond.{by-cond}
 use Rattle.overhead.specs.Overhead.{threeOf, fourOf, overheadOf}
 use Rattle.filter.specs.declared.Filter.{Filter}
 use Rattle.filter.specs.declared.Stat.{Stat}
-use Rattle.filter.specs.Filter.{filterOf}
+use Rattle.filter.specs.Filter.{upOf, quiet, filterOf}
 use Rattle.filter.specs.Stat.{statOf}
 use Rattle.filter.specs.Since.{On, Given, filterAfter, bitsSince}
 use Rattle.filter.specs.Stood.{Told, valuesSince, lastThree, statAfter, foundIn}
@@ -21,7 +22,7 @@ use Rattle.filter.proofs.Stood.{stat-is}
 use Rattle.alignment.specs.declared.Alignment.{Alignment}
 use Rattle.alignment.specs.declared.Framing.{Framing}
 use Rattle.alignment.specs.declared.Multi.{Multi}
-use Rattle.alignment.specs.Alignment.{framesOf, framingOf, lofOf, multiOf, lomOf, alignOf, dLOF, dLOM, freshAlignment}
+use Rattle.alignment.specs.Alignment.{framesOf, framingOf, lofOf, nextOf, multiOf, lomOf, alignOf, dLOF, dLOM, freshAlignment}
 use Rattle.alignment.specs.Since.{oofs, Cut, AllOut, LofIs, lofAfter, lomAfter}
 use Rattle.alignment.specs.Framed.{Signs, four, Framed, FramingIs, framingAfter}
 use Rattle.alignment.specs.Numbered.{Look, Numbered, MultiIs, multiAfter, placeOf}
@@ -29,8 +30,10 @@ use Rattle.alignment.proofs.Since.{lof-is, lom-is}
 use Rattle.alignment.proofs.Framed.{framing-is}
 use Rattle.alignment.proofs.Numbered.{multi-is}
 use Rattle.layer.specs.declared.Layer.{Layer}
-use Rattle.layer.specs.Layer.{equalOf, gatheredAt, closedOf as closedCycle, byteOf, traceOf, layerOf}
-use Rattle.supervisor.specs.Layers.{sectionOf, pathOf, layersOf, standingOf, sectionStands, pathStands}
+use Rattle.layer.specs.Layer.{withBdi, withDeg, equalOf, gatheredAt, closedOf as closedCycle, byteOf, traceOf, layerOf, timOf, freshLayer}
+use Rattle.layer.specs.Traced.{Turn, Grows, Steady, turnsSince, acceptedBy, traceAfter, timBy, foundIn as foundTrace}
+use Rattle.layer.proofs.Traced.{trace-is, tim-is}
+use Rattle.supervisor.specs.Layers.{lineOf, sectionOf, pathOf, layersOf, standingOf, sectionStands, pathStands}
 use Rattle.supervisor.specs.Second.{closedOf}
 use Rattle.supervisor.specs.Supervisor.{freshOf, frameOf, standsAfter, nextSecond}
 use Rattle.supervisor.specs.History.{Frame, Event, frame, mark, standsAt, framed, eventOf, after}
@@ -38,7 +41,7 @@ use Rattle.supervisor.specs.Ranges.{SettingsIn}
 use Rattle.supervisor.specs.declared.second.Second.{Second}
 use Rattle.supervisor.specs.declared.settings.Settings.{Settings}
 use Rattle.supervisor.specs.declared.Supervisor.{Supervisor}
-use Rattle.page.specs.Page.{framesBack, signsOf, inframes, looks, inmultis, Stood, stoodBack, closedBack, sectionBdi, pathBdi, iae, biae, stat, sectionBad, pathBad, Page}
+use Rattle.page.specs.Page.{framesBack, signsOf, inframes, looks, inmultis, Stood, stoodAt, stoodBack, closedBack, sectionTurn, pathTurn, sectionBdi, pathBdi, iae, biae, stat, sectionBad, pathBad, Page}
 
 -- a number above 0
 record Suc (n : ℕ) : Type 0 where
@@ -112,23 +115,23 @@ lom-over n (f ∷ l) =
 
 -- what a mechanism has come to over the frames, by what stood in them
 module _ {X G : Type 0} (run : List G → X) (get : Supervisor → X) (given : Stood → G)
-    (take : (s : Supervisor) (f : Frame) (gs : List G) → get s ≡ run gs → get (framed s f) ≡ run (given (record { stands = standsAt s f; sent = f }) ∷ gs))
+    (take : (s : Supervisor) (f : Frame) (gs : List G) → get s ≡ run gs → get (framed s f) ≡ run (given (stoodAt s f) ∷ gs))
     (keep : (s : Supervisor) → get (nextSecond s) ≡ get s) where
   carried : (s : Supervisor) (l : List Stood) (h : List Event) → get s ≡ run (map given l) → get (after s h) ≡ run (map given (stoodBack s l h))
   unfolding after eventOf stoodBack
   carried s l [] e = e
-  carried s l (frame f ∷ h) e = carried (framed s f) (record { stands = standsAt s f; sent = f } ∷ l) h (take s f (map given l) e)
+  carried s l (frame f ∷ h) e = carried (framed s f) (stoodAt s f ∷ l) h (take s f (map given l) e)
   carried s l (mark ∷ h) e = carried (nextSecond s) l h (keep s ∙ e)
 
 -- a filter of n
 module _ (n : ℕ) (get : Supervisor → Filter) (given : Stood → Given)
-    (step : (s : Supervisor) (f : Frame) → get (framed s f) ≡ filterOf (get s) n (given (record { stands = standsAt s f; sent = f }) .forget) (given (record { stands = standsAt s f; sent = f }) .bit))
+    (step : (s : Supervisor) (f : Frame) → get (framed s f) ≡ filterOf (get s) n (given (stoodAt s f) .forget) (given (stoodAt s f) .bit))
     (keep : (s : Supervisor) → get (nextSecond s) ≡ get s) where
   filter-carried : (s : Supervisor) (h : List Event) → get s ≡ filterAfter n [] → get (after s h) ≡ filterAfter n (map given (stoodBack s [] h))
   unfolding filterAfter
   filter-carried s h e =
       carried (filterAfter n) get given
-      (λ s f gs q. step s f ∙ ap (λ (z : Filter). filterOf z n (given (record { stands = standsAt s f; sent = f }) .forget) (given (record { stands = standsAt s f; sent = f }) .bit)) q)
+      (λ s f gs q. step s f ∙ ap (λ (z : Filter). filterOf z n (given (stoodAt s f) .forget) (given (stoodAt s f) .bit)) q)
       keep s [] h e
 
   on-is : (m : ℕ) → n ≡ suc m → (s : Supervisor) (h : List Event) → get s ≡ filterAfter n [] → (get (after s h) .on ≡ true) ↔ On n (bitsSince (map given (stoodBack s [] h)))
@@ -138,27 +141,27 @@ module _ (n : ℕ) (get : Supervisor → Filter) (given : Stood → Given)
       (subst⁻¹ (λ (k : ℕ). (filterAfter k (map given (stoodBack s [] h)) .on ≡ true) ↔ On k (bitsSince (map given (stoodBack s [] h)))) q (filter-on m (map given (stoodBack s [] h))))
 
 section-bdi-step : (s : Supervisor) (f : Frame) → framed s f .layers .section .layer .bdi
-    ≡ filterOf (s .layers .section .layer .bdi) 5 (sectionBdi (record { stands = standsAt s f; sent = f }) .forget) (sectionBdi (record { stands = standsAt s f; sent = f }) .bit)
+    ≡ filterOf (s .layers .section .layer .bdi) 5 (sectionBdi (stoodAt s f) .forget) (sectionBdi (stoodAt s f) .bit)
 unfolding frameOf layersOf sectionOf layerOf standsAfter standingOf
 section-bdi-step s f = refl
 
 path-bdi-step : (s : Supervisor) (f : Frame) → framed s f .layers .path .layer .bdi
-    ≡ filterOf (s .layers .path .layer .bdi) 5 (pathBdi (record { stands = standsAt s f; sent = f }) .forget) (pathBdi (record { stands = standsAt s f; sent = f }) .bit)
+    ≡ filterOf (s .layers .path .layer .bdi) 5 (pathBdi (stoodAt s f) .forget) (pathBdi (stoodAt s f) .bit)
 unfolding frameOf layersOf pathOf layerOf standsAfter standingOf pathStands
 path-bdi-step s f = refl
 
 iae-step : (s : Supervisor) (f : Frame) → framed s f .layers .section .iae
-    ≡ filterOf (s .layers .section .iae) 5 (iae (record { stands = standsAt s f; sent = f }) .forget) (iae (record { stands = standsAt s f; sent = f }) .bit)
+    ≡ filterOf (s .layers .section .iae) 5 (iae (stoodAt s f) .forget) (iae (stoodAt s f) .bit)
 unfolding frameOf layersOf sectionOf standsAfter standingOf sectionStands
 iae-step s f = refl
 
 biae-step : (s : Supervisor) (f : Frame) → framed s f .layers .section .biae
-    ≡ filterOf (s .layers .section .biae) 3 (biae (record { stands = standsAt s f; sent = f }) .forget) (biae (record { stands = standsAt s f; sent = f }) .bit)
+    ≡ filterOf (s .layers .section .biae) 3 (biae (stoodAt s f) .forget) (biae (stoodAt s f) .bit)
 unfolding frameOf layersOf sectionOf standsAfter standingOf sectionStands
 biae-step s f = refl
 
 stat-step : (s : Supervisor) (f : Frame) → framed s f .layers .path .stat
-    ≡ statOf (s .layers .path .stat) (stat (record { stands = standsAt s f; sent = f }) .forget) (stat (record { stands = standsAt s f; sent = f }) .value)
+    ≡ statOf (s .layers .path .stat) (stat (stoodAt s f) .forget) (stat (stoodAt s f) .value)
 unfolding frameOf layersOf pathOf standsAfter standingOf
 stat-step s f = refl
 
@@ -264,6 +267,102 @@ module _ (p : Settings) (h : List Event) where
         λ a. eq-eqb (after (freshOf p) h .layers .align .lom) (framesOf (p .k)) (lom-run ∙ i .1 a),
       )
 
+-- a layer with its trace alone
+abbrev traceOnly : Layer → Layer
+traceOnly l = withDeg (withBdi l quiet) quiet
+
+push : (t : Bool) (x y x' y' : Layer) → traceOnly x ≡ x' → traceOnly y ≡ y' → traceOnly (cond t x y) ≡ cond t x' y'
+push true x y x' y' p q = p
+push false x y x' y' p q = q
+
+trace-only : (l : Layer) (forget inmulti : Bool) (n t : ℕ) → traceOnly (traceOf l forget inmulti n t) ≡ traceOf (traceOnly l) forget inmulti n t
+unfolding traceOf byteOf closedCycle equalOf
+trace-only l forget inmulti n t =
+    push forget _ _ _ _ refl
+    (push inmulti _ _ _ _
+    (push (eqb (n % 64) 0 || l .gathering) _ _ _ _
+    (push (eqb (n % 64) 63) _ _ _ _ (push (eqb (equalOf (gatheredAt l (n % 64) t)) 3) _ _ _ _ refl refl) refl)
+    refl)
+    refl)
+
+section-trace-step : (s : Supervisor) (f : Frame) → traceOnly (framed s f .layers .section .layer)
+    ≡ traceOf (traceOnly (s .layers .section .layer)) (sectionTurn (stoodAt s f) .forget) (sectionTurn (stoodAt s f) .inmulti) (sectionTurn (stoodAt s f) .number) (sectionTurn (stoodAt s f) .tti)
+unfolding frameOf layersOf sectionOf layerOf standsAfter standingOf lineOf
+section-trace-step s f = trace-only (s .layers .section .layer) _ _ _ _
+
+path-trace-step : (s : Supervisor) (f : Frame) → traceOnly (framed s f .layers .path .layer)
+    ≡ traceOf (traceOnly (s .layers .path .layer)) (pathTurn (stoodAt s f) .forget) (pathTurn (stoodAt s f) .inmulti) (pathTurn (stoodAt s f) .number) (pathTurn (stoodAt s f) .tti)
+unfolding frameOf layersOf pathOf layerOf standsAfter standingOf lineOf pathStands
+path-trace-step s f = trace-only (s .layers .path .layer) _ _ _ _
+
+next-trace : (s : Supervisor) → (traceOnly (nextSecond s .layers .section .layer) ≡ traceOnly (s .layers .section .layer)) × (traceOnly (nextSecond s .layers .path .layer) ≡ traceOnly (s .layers .path .layer))
+unfolding nextSecond
+next-trace s = (refl, refl)
+
+-- the local number grows by one
+grows : (m : Multi) (inframe : Bool) (mfas : ℕ) → m .inmulti ≡ true → multiOf m inframe mfas .inmulti ≡ true → multiOf m inframe mfas .number ≡ (m .number + 1) % 256
+unfolding multiOf nextOf
+grows m inframe mfas i = rw i (by-cond P inframe
+    (λ _. by-cond P (eqb mfas ((m .number + 1) % 256)) (λ _ _. refl) (λ _. by-cond P (eqb (upOf (m .misses) 5) 5) (λ _ e. absurd (false≢true e)) (λ _ _. refl)))
+    (λ _ _. refl))
+  where
+    P : Multi → Type 0
+    P z = z .inmulti ≡ true → z .number ≡ (m .number + 1) % 256
+
+multi-step : (s : Supervisor) (f : Frame) → framed s f .layers .align .multi ≡ multiOf (s .layers .align .multi) (framed s f .layers .align .framing .inframe) (overheadOf (f .overhead) .mfas)
+unfolding frameOf layersOf alignOf
+multi-step s f = refl
+
+stood-multi : (s : Supervisor) (f : Frame) → stoodAt s f .stands .line .inmulti ≡ framed s f .layers .align .multi .inmulti
+unfolding frameOf standsAfter standingOf lineOf
+stood-multi s f = refl
+
+-- the latest of the frames is the one whose state stands
+abbrev Latest : Supervisor → List Stood → Type 0
+Latest s [] = Unit {0}
+Latest s (x ∷ l) = (x .stands .line .inmulti ≡ s .layers .align .multi .inmulti) × (x .number ≡ s .layers .align .multi .number)
+
+latest-next : (s : Supervisor) (l : List Stood) → Latest s l → Latest (nextSecond s) l
+unfolding nextSecond
+latest-next s [] e = tt
+latest-next s (x ∷ l) e = e
+
+-- what a layer is given of a frame's alignment, whatever else it is given
+module _ (turn : Stood → Turn) (im : (x : Stood) → turn x .inmulti ≡ x .stands .line .inmulti) (number : (x : Stood) → turn x .number ≡ x .number) where
+  one-grows : (s : Supervisor) (f : Frame) (l : List Stood) → Latest s l → Grows (turn (stoodAt s f)) (map turn l)
+  one-grows s f [] e = tt
+  one-grows s f (x ∷ l) e = λ i j.
+      let a : s .layers .align .multi .inmulti ≡ true = sym (e .0) ∙ (sym (im x) ∙ i) in
+      let b : framed s f .layers .align .multi .inmulti ≡ true = sym (stood-multi s f) ∙ (sym (im (stoodAt s f)) ∙ j) in
+      let g : framed s f .layers .align .multi .number ≡ (s .layers .align .multi .number + 1) % 256 =
+          ap (λ (z : Multi). z .number) (multi-step s f)
+          ∙ grows (s .layers .align .multi) (framed s f .layers .align .framing .inframe) (overheadOf (f .overhead) .mfas) a (sym (ap (λ (z : Multi). z .inmulti) (multi-step s f)) ∙ b) in
+      number (stoodAt s f) ∙ g ∙ ap (λ (n : ℕ). (n + 1) % 256) (sym (e .1) ∙ sym (number x))
+
+  steady : (s : Supervisor) (l : List Stood) (h : List Event) → Latest s l → Steady (map turn l) → Steady (map turn (stoodBack s l h))
+  unfolding stoodBack
+  steady s l [] e q = q
+  steady s l (frame f ∷ h) e q = steady (framed s f) (stoodAt s f ∷ l) h (stood-multi s f, refl) (one-grows s f l e, q)
+  steady s l (mark ∷ h) e q = steady (nextSecond s) l h (latest-next s l e) q
+
+-- the accepted trace of a layer, and dTIM
+module _ (get : Supervisor → Layer) (turn : Stood → Turn) (im : (x : Stood) → turn x .inmulti ≡ x .stands .line .inmulti) (number : (x : Stood) → turn x .number ≡ x .number)
+    (step : (s : Supervisor) (f : Frame) → traceOnly (get (framed s f)) ≡ traceOf (traceOnly (get s)) (turn (stoodAt s f) .forget) (turn (stoodAt s f) .inmulti) (turn (stoodAt s f) .number) (turn (stoodAt s f) .tti))
+    (keep : (s : Supervisor) → traceOnly (get (nextSecond s)) ≡ traceOnly (get s)) (s : Supervisor) (h : List Event) (start : traceOnly (get s) ≡ freshLayer) where
+  trace-carried : traceOnly (get (after s h)) ≡ traceAfter (map turn (stoodBack s [] h))
+  unfolding traceAfter
+  trace-carried =
+      carried traceAfter (λ x. traceOnly (get x)) turn
+      (λ x f gs q. step x f ∙ ap (λ (z : Layer). traceOf z (turn (stoodAt x f) .forget) (turn (stoodAt x f) .inmulti) (turn (stoodAt x f) .number) (turn (stoodAt x f) .tti)) q)
+      keep s [] h start
+
+  trace-law : foundTrace (get (after s h)) ≡ acceptedBy (turnsSince (map turn (stoodBack s [] h)))
+  trace-law = ap foundTrace trace-carried ∙ trace-is (map turn (stoodBack s [] h)) (steady turn im number s [] h tt tt)
+
+  tim-law : (mode : ℕ) (names : List ℕ) → length names ≡ 32 → timOf (get (after s h)) mode names ≡ timBy (acceptedBy (turnsSince (map turn (stoodBack s [] h)))) mode names
+  unfolding timOf
+  tim-law mode names e = ap (λ (z : Layer). timOf z mode names) trace-carried ∙ tim-is (map turn (stoodBack s [] h)) mode names (steady turn im number s [] h tt tt) e
+
 pub page : (p : Settings) → SettingsIn p → (h : List Event) → Page p h
 unfolding filterAfter statAfter
 page p v h =
@@ -275,6 +374,10 @@ page p v h =
       lof-is = ap (λ z. eqb (z .total) (framesOf (p .k))) (lof-total p h) ∙ lof-law p h .stands;
       multi-is = multi-law p h;
       lom-is = lom-law p h;
+      section-trace = trace-law (λ s. s .layers .section .layer) sectionTurn (λ x. refl) (λ x. refl) section-trace-step (λ s. next-trace s .0) (freshOf p) h refl;
+      section-tim = tim-law (λ s. s .layers .section .layer) sectionTurn (λ x. refl) (λ x. refl) section-trace-step (λ s. next-trace s .0) (freshOf p) h refl (p .section .mode) (p .section .names) (v .section .names);
+      path-trace = trace-law (λ s. s .layers .path .layer) pathTurn (λ x. refl) (λ x. refl) path-trace-step (λ s. next-trace s .1) (freshOf p) h refl;
+      path-tim = tim-law (λ s. s .layers .path .layer) pathTurn (λ x. refl) (λ x. refl) path-trace-step (λ s. next-trace s .1) (freshOf p) h refl (p .path .mode) (p .path .names) (v .path .names);
       section-bdi = on-is 5 (λ s. s .layers .section .layer .bdi) sectionBdi section-bdi-step (λ s. next-bdi s .0) 4 refl (freshOf p) h refl;
       path-bdi = on-is 5 (λ s. s .layers .path .layer .bdi) pathBdi path-bdi-step (λ s. next-bdi s .1) 4 refl (freshOf p) h refl;
       iae-is = on-is 5 (λ s. s .layers .section .iae) iae iae-step (λ s. next-iae s .0) 4 refl (freshOf p) h refl;
@@ -282,7 +385,7 @@ page p v h =
       stat-is =
           ap foundIn
           (carried statAfter (λ s. s .layers .path .stat) stat
-          (λ s f gs q. stat-step s f ∙ ap (λ (z : Stat). statOf z (stat (record { stands = standsAt s f; sent = f }) .forget) (stat (record { stands = standsAt s f; sent = f }) .value)) q)
+          (λ s f gs q. stat-step s f ∙ ap (λ (z : Stat). statOf z (stat (stoodAt s f) .forget) (stat (stoodAt s f) .value)) q)
           next-stat (freshOf p) [] h refl)
           ∙ stat-is (map stat (stoodBack (freshOf p) [] h));
       section-deg = deg-is p (λ x. x .section .degm) (λ s. s .layers .section .layer .deg) sectionBad section-deg-kept section-deg-step (ds .one-less) (ds .is) (freshOf p) h refl refl;

@@ -13,7 +13,9 @@ use Rattle.alignment.specs.Alignment.{framesOf, dLOF, dLOM}
 use Rattle.alignment.specs.Since.{oofs, Cut, AllOut}
 use Rattle.alignment.specs.Framed.{Signs, Framed, framingAfter}
 use Rattle.alignment.specs.Numbered.{Look, Numbered, multiAfter, placeOf}
+use Rattle.layer.specs.Layer.{timOf}
 use Rattle.layer.specs.Signal.{isAis}
+use Rattle.layer.specs.Traced.{Turn, turnsSince, acceptedBy, timBy, foundIn as foundTrace}
 use Rattle.supervisor.specs.Causes.{ssfOf, pathSsf}
 use Rattle.supervisor.specs.Second.{closedOf}
 use Rattle.supervisor.specs.Supervisor.{freshOf, nextSecond}
@@ -52,14 +54,18 @@ inmultis (f ∷ l) = multiAfter (looks (f ∷ l)) .inmulti ∷ inmultis l
 
 -- The filters, by what stood in the frames.
 
--- a frame, and what stood after it
+-- a frame, and what stood after it, with the local number
 pub record Stood : Type 0 where
   pub stands : Standing
+  pub number : ℕ
   pub sent : Frame
+
+abbrev pub stoodAt : Supervisor → Frame → Stood
+stoodAt s f = record { stands = standsAt s f; number = framed s f .layers .align .multi .number; sent = f }
 
 unfoldable pub stoodBack : Supervisor → List Stood → List Event → List Stood
 stoodBack s l [] = l
-stoodBack s l (frame f ∷ h) = stoodBack (framed s f) (record { stands = standsAt s f; sent = f } ∷ l) h
+stoodBack s l (frame f ∷ h) = stoodBack (framed s f) (stoodAt s f ∷ l) h
 stoodBack s l (mark ∷ h) = stoodBack (nextSecond s) l h
 
 -- the seconds that were closed
@@ -87,6 +93,23 @@ biae x = record { forget = ssfOf (x .stands .line) || x .stands .section .tim; b
 abbrev pub stat : Stood → Told
 stat x = record { forget = pathSsf (x .stands); value = overheadOf (x .sent .overhead) .path .stat }
 
+-- "TTI byte number is the local number modulo 64." The accepted trace is forgotten with dTIM, "False during SSF; in the path also during dAIS."
+abbrev pub sectionTurn : Stood → Turn
+sectionTurn x = record {
+  forget = ssfOf (x .stands .line);
+  inmulti = x .stands .line .inmulti;
+  number = x .number;
+  tti = overheadOf (x .sent .overhead) .section .tti;
+}
+
+abbrev pub pathTurn : Stood → Turn
+pathTurn x = record {
+  forget = pathSsf (x .stands) || isAis (x .stands .path .signal);
+  inmulti = x .stands .line .inmulti;
+  number = x .number;
+  tti = overheadOf (x .sent .overhead) .path .tti;
+}
+
 -- "a second is bad if its near-end block count, after discard, is at least DEGThr"
 abbrev pub sectionBad : Settings → Second → Given
 sectionBad p c = record { forget = false; bit = leb (p .section .thr) (c .section .near .0) }
@@ -105,6 +128,13 @@ pub record Page (p : Settings) (h : List Event) : Type 0 where
   pub multi-is : Numbered (placeOf (after (freshOf p) h .layers .align .multi)) (looks (framesBack [] h))
   -- dLOM: the last N frames were all in OOM
   pub lom-is : (dLOM (after (freshOf p) h .layers .align) (framesOf (p .k)) ≡ true) ↔ AllOut (framesOf (p .k)) (inmultis (framesBack [] h))
+  -- the accepted traces: the 64 bytes that last stood in three whole cycles in a row, all in IM, since the last forgetting; and dTIM by them
+  pub section-trace : foundTrace (after (freshOf p) h .layers .section .layer) ≡ acceptedBy (turnsSince (map sectionTurn (stoodBack (freshOf p) [] h)))
+  pub section-tim : timOf (after (freshOf p) h .layers .section .layer) (p .section .mode) (p .section .names)
+      ≡ timBy (acceptedBy (turnsSince (map sectionTurn (stoodBack (freshOf p) [] h)))) (p .section .mode) (p .section .names)
+  pub path-trace : foundTrace (after (freshOf p) h .layers .path .layer) ≡ acceptedBy (turnsSince (map pathTurn (stoodBack (freshOf p) [] h)))
+  pub path-tim : timOf (after (freshOf p) h .layers .path .layer) (p .path .mode) (p .path .names)
+      ≡ timBy (acceptedBy (turnsSince (map pathTurn (stoodBack (freshOf p) [] h)))) (p .path .mode) (p .path .names)
   -- dBDI of section and path, dIAE, dBIAE: n in a row since the last frame that forgot, and no n others since
   pub section-bdi : (after (freshOf p) h .layers .section .layer .bdi .on ≡ true) ↔ On 5 (bitsSince (map sectionBdi (stoodBack (freshOf p) [] h)))
   pub path-bdi : (after (freshOf p) h .layers .path .layer .bdi .on ≡ true) ↔ On 5 (bitsSince (map pathBdi (stoodBack (freshOf p) [] h)))
