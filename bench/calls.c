@@ -1,0 +1,163 @@
+/* Drives the card's four calls from a stream of orders on standard input and writes what they answered to standard output.
+ * Every lent buffer stands between guard bytes; around a call that must not change it, it is compared with a copy.
+ *
+ * Orders, all little-endian:
+ *   F sup  k thr(4) degm thr(4) degm mode mode dis dis  len(2) len(2) names names      otn_fresh
+ *   S sup  len(2) bytes flags sm pm                                                   otn_step
+ *   M sup  room(2) fill                                                               otn_mark
+ *   T sup  layer room(2) fill                                                         otn_trace
+ *   Z                                                                                 write out what is gathered
+ * sup is one byte: 0 the supervisor; 1 it less its last byte; 2 with a byte more; 3 none of it; 4 its right length, all FF bytes.
+ * Answer: the word (8), a byte of complaints (0: none), and for M and T the lent buffer as it is after the call. */
+#include "otn.h"
+#include <stdio.h>
+#include <stdlib.h>
+#include <string.h>
+#include <unistd.h>
+
+enum { GUARD = 33 }; /* odd, so that no lent buffer is aligned */
+enum { INPUT_CHANGED = 1, GUARD_BROKEN = 2, SUPERVISOR_CHANGED = 4, BUFFER_CHANGED = 8 };
+
+static uint8_t in[1 << 16], out[1 << 16];
+static size_t in_at, in_end, out_end;
+
+static void flush(void)
+{
+    for (size_t done = 0; done < out_end;) {
+        ssize_t n = write(1, out + done, out_end - done);
+        if (n <= 0) exit(2);
+        done += (size_t)n;
+    }
+    out_end = 0;
+}
+
+static void put(const void *bytes, size_t n)
+{
+    for (const uint8_t *b = bytes; n; n--, b++) {
+        if (out_end == sizeof out) flush();
+        out[out_end++] = *b;
+    }
+}
+
+static int get(void)
+{
+    if (in_at == in_end) {
+        ssize_t n = read(0, in, sizeof in);
+        if (n <= 0) return -1;
+        in_at = 0, in_end = (size_t)n;
+    }
+    return in[in_at++];
+}
+
+static uint8_t byte(void)
+{
+    int c = get();
+    if (c < 0) exit(3);
+    return (uint8_t)c;
+}
+
+static uint32_t number(int bytes)
+{
+    uint32_t v = 0;
+    for (int i = 0; i < bytes; i++) v |= (uint32_t)byte() << 8 * i;
+    return v;
+}
+
+/* A lent buffer between guard bytes, and a copy of what it held. */
+enum { MOST = 65536 };
+struct lent {
+    uint8_t before[GUARD], bytes[MOST + GUARD], copy[MOST];
+    size_t len;
+};
+
+static void lend(struct lent *l, size_t len)
+{
+    l->len = len;
+    memset(l->before, 0xA5, GUARD);
+    memset(l->bytes + len, 0x5A, GUARD);
+}
+
+static void remember(struct lent *l) { memcpy(l->copy, l->bytes, l->len); }
+static int changed(const struct lent *l) { return memcmp(l->copy, l->bytes, l->len) != 0; }
+
+static int guarded(const struct lent *l)
+{
+    static const uint8_t before[GUARD] = {[0 ... GUARD - 1] = 0xA5}, after[GUARD] = {[0 ... GUARD - 1] = 0x5A};
+    return memcmp(l->before, before, GUARD) == 0 && memcmp(l->bytes + l->len, after, GUARD) == 0;
+}
+
+static void take(struct lent *l)
+{
+    for (size_t i = 0; i < l->len;) {
+        if (in_at == in_end) {
+            l->bytes[i++] = byte();
+            continue;
+        }
+        size_t some = in_end - in_at < l->len - i ? in_end - in_at : l->len - i;
+        memcpy(l->bytes + i, in + in_at, some);
+        in_at += some, i += some;
+    }
+    remember(l);
+}
+
+int main(void)
+{
+    static struct lent right, less, more, none, beyond, a, b;
+    struct lent *sups[5] = {&right, &less, &more, &none, &beyond};
+    lend(&right, OTN_SUPERVISOR_BYTES), lend(&less, OTN_SUPERVISOR_BYTES - 1), lend(&more, OTN_SUPERVISOR_BYTES + 1);
+    lend(&none, 0), lend(&beyond, OTN_SUPERVISOR_BYTES);
+    for (int order; (order = get()) >= 0;) {
+        if (order == 'Z') {
+            flush();
+            continue;
+        }
+        const uint8_t which = byte();
+        if (which > 4) exit(5);
+        struct lent *s = sups[which];
+        if (which == 1) memcpy(s->bytes, right.bytes, s->len);
+        if (which == 2) memcpy(s->bytes, right.bytes, right.len), s->bytes[right.len] = 0;
+        if (which == 4) memset(s->bytes, 0xFF, s->len);
+        remember(s);
+        uint64_t answer;
+        uint8_t complaints = 0;
+        int shows = 0;
+        lend(&b, 0);
+        if (order == 'F') {
+            const uint8_t k = byte();
+            const uint32_t sm_thr = number(4);
+            const uint8_t sm_degm = byte();
+            const uint32_t pm_thr = number(4);
+            const uint8_t pm_degm = byte(), sm_mode = byte(), pm_mode = byte(), sm_dis = byte(), pm_dis = byte();
+            lend(&a, number(2));
+            lend(&b, number(2));
+            take(&a), take(&b);
+            answer = otn_fresh(s->bytes, s->len, k, sm_thr, sm_degm, pm_thr, pm_degm, sm_mode, pm_mode, sm_dis, pm_dis, a.bytes,
+                               a.len, b.bytes, b.len);
+            if (changed(&a) || changed(&b)) complaints |= INPUT_CHANGED;
+        } else if (order == 'S') {
+            lend(&a, number(2));
+            take(&a);
+            const uint8_t flags = byte(), sm = byte(), pm = byte();
+            answer = otn_step(s->bytes, s->len, a.bytes, a.len, flags, sm, pm);
+            if (changed(&a)) complaints |= INPUT_CHANGED;
+        } else if (order == 'M' || order == 'T') {
+            const uint8_t layer = order == 'T' ? byte() : 0;
+            lend(&a, number(2));
+            const uint8_t fill = byte();
+            memset(a.bytes, fill, a.len);
+            remember(&a);
+            answer = order == 'M' ? otn_mark(s->bytes, s->len, a.bytes, a.len) : otn_trace(s->bytes, s->len, layer, a.bytes, a.len);
+            if ((answer & 255) && changed(&a)) complaints |= BUFFER_CHANGED;
+            if (order == 'T' && changed(s)) complaints |= SUPERVISOR_CHANGED;
+            shows = 1;
+        } else
+            exit(6);
+        if ((answer & 255) && changed(s)) complaints |= SUPERVISOR_CHANGED;
+        if (!guarded(s) || !guarded(&a) || !guarded(&b)) complaints |= GUARD_BROKEN;
+        put(&answer, 8);
+        put(&complaints, 1);
+        if (shows) put(a.bytes, a.len);
+    }
+    flush();
+    return 0;
+}

@@ -1,0 +1,61 @@
+/* A supervisor as one would write it by hand: one struct, updated in place. The speed baseline. */
+#ifndef PLAIN_H
+#define PLAIN_H
+#include <stddef.h>
+#include <stdint.h>
+
+/* PLAIN_NAME lets two builds of plain.c stand in one program. */
+#ifndef PLAIN_NAME
+#define PLAIN_NAME(name) name
+#endif
+#define plain_fresh PLAIN_NAME(plain_fresh)
+#define plain_step PLAIN_NAME(plain_step)
+#define plain_mark PLAIN_NAME(plain_mark)
+#define plain_trace PLAIN_NAME(plain_trace)
+
+struct plain_filter { /* n and n: the run of frames against what stands */
+    uint8_t stands, run;
+};
+
+struct plain_trace_state {
+    uint8_t gathered[64], previous[64], accepted[64];
+    uint8_t gathering; /* a cycle is under way since its number 0 */
+    uint8_t equal;     /* equal cycles in a row, up to 3 */
+    uint8_t has;       /* a trace is accepted */
+    uint8_t differs;   /* and it is not the expected one */
+};
+
+struct plain_layer {
+    struct plain_trace_state trace;
+    struct plain_filter bdi, deg;
+    uint8_t near_ds, far_ds;
+    uint32_t near, far;
+    /* provisioning */
+    uint32_t degthr;
+    uint8_t degm, mode, dis, acts;
+    uint8_t names[32];
+};
+
+struct plain {
+    uint32_t n; /* 62, 247, 989 */
+    /* alignment */
+    uint32_t oof_total, if_run, oom_run;
+    uint8_t in_frame, fas_run, in_multiframe, local, mismatches, previous_known, previous;
+    /* section and path */
+    struct plain_filter iae, biae;
+    uint8_t stat_value, stat_run, stat; /* stat: accepted, 0 without */
+    struct plain_layer layer[2];
+    /* the open second */
+    uint8_t iae_stood, biae_stood;
+    uint32_t frames, heads[10];
+    uint32_t closed;
+};
+
+/* Each answers the refusal number, 0 where accepted; step the report above its low byte. */
+uint64_t plain_fresh(struct plain *p, uint8_t k, uint32_t sm_thr, uint8_t sm_degm, uint32_t pm_thr, uint8_t pm_degm,
+                     uint8_t sm_mode, uint8_t pm_mode, uint8_t sm_dis, uint8_t pm_dis, const uint8_t *sm_names,
+                     size_t sm_names_len, const uint8_t *pm_names, size_t pm_names_len);
+uint64_t plain_step(struct plain *p, const uint8_t *overhead, size_t len, uint8_t flags, uint8_t sm, uint8_t pm);
+uint64_t plain_mark(struct plain *p, uint32_t record[20]);
+uint64_t plain_trace(const struct plain *p, uint8_t layer, uint8_t *out, size_t len);
+#endif

@@ -1,0 +1,218 @@
+/* Any bytes and any numbers to the card's four calls.
+ *
+ *     soak SEED CALLS
+ *
+ * Every lent buffer stands against a page that cannot be touched, at its end or at its start, so that a byte read or written past
+ * it ends the run, whatever the library was built with. Held for each call:
+ *   - it ends, with a refusal number that the call may answer, and by the order of the numbers where the supervisor is sound;
+ *   - a refusal is its number and nothing else, and the supervisor and every lent buffer keep their contents;
+ *   - an accepted call answers nothing in bits 0 to 7 and 56 to 63, a head of 0 to 9, and leaves a supervisor that is accepted again;
+ *   - what is lent to be read is not written.
+ * The supervisors: fresh ones stepped on, ones with some bytes changed (these go on too, if accepted), and noise of any length. */
+#define _DEFAULT_SOURCE
+#include "otn.h"
+#include <inttypes.h>
+#include <stdio.h>
+#include <stdlib.h>
+#include <string.h>
+#include <sys/mman.h>
+
+enum { PAGE = 4096, PAGES = 4, BESIDE = 128, SUP = OTN_SUPERVISOR_BYTES, MOST = 2 * SUP + 200 };
+
+static uint64_t state;
+static uint64_t next(void)
+{
+    uint64_t z = state += 0x9E3779B97F4A7C15u;
+    z = (z ^ z >> 30) * 0xBF58476D1CE4E5B9u;
+    z = (z ^ z >> 27) * 0x94D049BB133111EBu;
+    return z ^ z >> 31;
+}
+static uint64_t below(uint64_t n) { return next() % n; }
+
+struct lent {
+    uint8_t *pages, *bytes;
+    size_t len;
+    int at_start;
+    uint8_t copy[PAGE * PAGES];
+};
+static struct lent sup_lent, a_lent, b_lent;
+
+static void open_lent(struct lent *l)
+{
+    l->pages = mmap(NULL, (PAGES + 2) * PAGE, PROT_NONE, MAP_PRIVATE | MAP_ANONYMOUS, -1, 0);
+    if (l->pages == MAP_FAILED || mprotect(l->pages + PAGE, PAGES * PAGE, PROT_READ | PROT_WRITE)) abort();
+    l->pages += PAGE;
+}
+
+static uint8_t *lend(struct lent *l, const uint8_t *from, size_t len)
+{
+    if (len > PAGES * PAGE - BESIDE) abort();
+    l->len = len;
+    l->at_start = (int)below(2);
+    l->bytes = l->at_start ? l->pages : l->pages + PAGES * PAGE - len;
+    memset(l->at_start ? l->bytes + len : l->bytes - BESIDE, 0xC3, BESIDE);
+    if (from)
+        memcpy(l->bytes, from, len);
+    else
+        for (size_t i = 0; i < len; i++) l->bytes[i] = (uint8_t)next();
+    memcpy(l->copy, l->bytes, len);
+    return l->bytes;
+}
+
+static int kept(const struct lent *l) { return memcmp(l->copy, l->bytes, l->len) == 0; }
+
+/* Nothing around the buffer was written either, on the side without a page. */
+static int around(const struct lent *l)
+{
+    static const uint8_t c3[BESIDE] = {[0 ... BESIDE - 1] = 0xC3};
+    return memcmp(l->at_start ? l->bytes + l->len : l->bytes - BESIDE, c3, BESIDE) == 0;
+}
+
+static uint64_t calls, answered[18], traces_read;
+static uint8_t count;
+static uint64_t seed;
+static void fail(const char *call, uint64_t answer, const char *what)
+{
+    printf("soak: seed %" PRIu64 ", call %" PRIu64 ", %s answered %#" PRIx64 ": %s\n", seed, calls, call, answer, what);
+    exit(1);
+}
+
+/* One call on the supervisor in sup (its bytes and length are replaced where it is accepted). sound: it comes from fresh. */
+static uint64_t call(uint8_t *sup, size_t len, int sound, int order)
+{
+    static const uint8_t small[16] = {0, 1, 2, 3, 4, 5, 8, 9, 10, 11, 15, 16, 63, 64, 128, 255};
+    uint8_t *s = lend(&sup_lent, sup, len);
+    uint64_t answer;
+    const char *name;
+    unsigned expected = 0, may; /* the refusal by the order of numbers, but for 17, 4 and 13; and what may be answered */
+    int reads_a = 1;
+    calls++;
+    lend(&b_lent, NULL, 0);
+    if (order == 0) {
+        name = "otn_fresh";
+        const uint8_t k = below(8) ? 1 + below(3) : (uint8_t)next();
+        const uint32_t ceiling = k == 1 ? 20420 : k == 2 ? 82025 : 329492;
+        uint32_t thr[2];
+        uint8_t degm[2], mode[2], dis[2];
+        size_t n[2];
+        for (int i = 0; i < 2; i++) {
+            thr[i] = below(12) ? 1 + below(below(2) ? 4 : ceiling) : (uint32_t)(next() >> below(64));
+            degm[i] = below(12) ? 2 + below(9) : (uint8_t)next();
+            mode[i] = below(12) ? below(4) : (uint8_t)next();
+            dis[i] = below(12) ? below(3) : (uint8_t)next();
+            n[i] = below(12) ? 32 : below(70);
+        }
+        lend(&a_lent, NULL, n[0]), lend(&b_lent, NULL, n[1]);
+        if (k < 1 || k > 3) expected = 5;
+        for (int i = 0; i < 2; i++) {
+            unsigned low = thr[i] < 1 || thr[i] > ceiling ? 6
+                           : degm[i] < 2 || degm[i] > 10  ? 7
+                           : mode[i] > 3                  ? 8
+                           : dis[i] > 2                   ? 9
+                           : n[i] != 32                   ? 10
+                                                          : 0;
+            if (low && (!expected || low < expected)) expected = low;
+        }
+        if (len != SUP) expected = 17;
+        answer = otn_fresh(s, len, k, thr[0], degm[0], thr[1], degm[1], mode[0], mode[1], dis[0], dis[1], a_lent.bytes, n[0],
+                           b_lent.bytes, n[1]);
+        if (answer != expected) fail(name, answer, "another refusal was due");
+        may = 1 << answer;
+    } else if (order == 1) {
+        name = "otn_step";
+        uint8_t overhead[200];
+        const size_t n = below(20) ? 64 : below(200);
+        for (size_t i = 0; i < n; i++) overhead[i] = (uint8_t)next();
+        const int steady = sound && calls / 4000 % 2; /* long enough for traces to be accepted */
+        if ((steady || below(8)) && n == 64) {
+            memcpy(overhead, "\xF6\xF6\xF6\x28\x28\x28", 6);
+            overhead[6] = steady || below(20) ? count : (uint8_t)next();
+            if (steady || below(4)) overhead[7] = overhead[41] = 0;
+            if (steady || below(3)) overhead[9] = overhead[43] = 0;
+        }
+        lend(&a_lent, overhead, n);
+        const uint8_t flags = steady ? below(40) ? 0 : 4 + below(252) : below(6) ? 0 : below(2) ? small[below(16)] : (uint8_t)next();
+        const uint8_t sm = below(3) ? 0 : small[below(16)], pm = below(3) ? 0 : small[below(16)];
+        expected = n != 64 ? 1 : flags > 3 ? 2 : sm > 8 || pm > 8 ? 3 : 0;
+        answer = otn_step(s, len, a_lent.bytes, n, flags, sm, pm);
+        may = 1 << 17 | 1 << expected | (expected ? 0 : 1 << 4);
+        if (sound && !(answer & 255)) count++; /* the sound one's MFAS goes on */
+    } else if (order == 2) {
+        name = "otn_mark";
+        lend(&a_lent, NULL, below(2) ? 80 : below(200));
+        answer = otn_mark(s, len, a_lent.bytes, a_lent.len);
+        may = 1 << 17 | 1 << 0 | 1 << 4;
+        reads_a = 0;
+        if (answer == 0 && a_lent.len > 80 && memcmp(a_lent.bytes + 80, a_lent.copy + 80, a_lent.len - 80))
+            fail(name, answer, "bytes past the record were written");
+    } else {
+        name = "otn_trace";
+        const uint8_t layer = below(4) ? below(2) : (uint8_t)next();
+        lend(&a_lent, NULL, below(3) ? 64 : below(200));
+        expected = layer > 1 ? 11 : a_lent.len != 64 ? 12 : 0;
+        answer = otn_trace(s, len, layer, a_lent.bytes, a_lent.len);
+        may = 1 << 17 | 1 << expected | (expected ? 0 : 1 << 13);
+        reads_a = 0;
+    }
+    const unsigned refusal = answer & 255;
+    if (refusal > 17 || !(may >> refusal & 1)) fail(name, answer, "this refusal was not due");
+    if (order != 0 && len != SUP && refusal != 17) fail(name, answer, "the supervisor's length is wrong");
+    if (sound && refusal == 17) fail(name, answer, "no history from fresh meets 17");
+    if (refusal && answer != refusal) fail(name, answer, "a refusal answers its number and nothing else");
+    if (answer >> 56 || (answer >> 8 & 15) > 9) fail(name, answer, "bits that cannot stand");
+    if (order != 1 && !refusal && answer) fail(name, answer, "only a step reports");
+    if (refusal && !kept(&sup_lent)) fail(name, answer, "a refused call changed the supervisor");
+    if (order == 3 && !kept(&sup_lent)) fail(name, answer, "reading a trace changed the supervisor");
+    if ((refusal || reads_a) && !kept(&a_lent)) fail(name, answer, "a lent buffer was changed");
+    if (!kept(&b_lent)) fail(name, answer, "a lent buffer was changed");
+    if (!around(&sup_lent) || !around(&a_lent) || !around(&b_lent)) fail(name, answer, "bytes beside a lent buffer were written");
+    answered[refusal]++;
+    traces_read += order == 3 && !refusal;
+    if (!refusal) {
+        memcpy(sup, s, len);
+        uint8_t none[1];
+        if (otn_trace(s, len, 2, none, 1) != 11) fail(name, answer, "what it left is not accepted again");
+    }
+    return answer;
+}
+
+int main(int argc, char **argv)
+{
+    seed = argc > 1 ? strtoull(argv[1], NULL, 10) : 1;
+    const uint64_t wanted = argc > 2 ? strtoull(argv[2], NULL, 10) : 200000;
+    state = seed;
+    open_lent(&sup_lent), open_lent(&a_lent), open_lent(&b_lent);
+    static uint8_t sound[SUP], other[MOST];
+    uint64_t mutated = 0, mutated_accepted = 0;
+    while (call(sound, SUP, 0, 0) != 0) {}
+    while (calls < wanted) {
+        const uint64_t sort = below(100);
+        if (sort < 70) { /* on with the sound one */
+            const uint64_t o = below(400);
+            call(sound, SUP, 1, o == 0 ? 0 : o < 360 ? 1 : o < 380 ? 2 : 3);
+        } else if (sort < 90) { /* a changed one, and on with it */
+            memcpy(other, sound, SUP);
+            for (uint64_t n = 1 + below(3); n; n--) {
+                const uint64_t at = below(SUP);
+                other[at] = below(2) ? (uint8_t)next() : other[at] ^ 1 << below(8);
+            }
+            mutated++;
+            for (uint64_t n = 1 + below(20); n; n--) {
+                const uint64_t answer = call(other, SUP, 0, 1 + below(3)) & 255;
+                if (answer == 17) break;
+                mutated_accepted += answer == 0;
+            }
+        } else { /* noise, or zeros, or all ones, of any length */
+            const size_t len = below(3) ? SUP : below(MOST);
+            const int fill = (int)below(3);
+            for (size_t i = 0; i < len; i++) other[i] = fill == 0 ? 0 : fill == 1 ? 0xFF : (uint8_t)next();
+            call(other, len, 0, (int)below(4));
+        }
+    }
+    printf("soak: seed %" PRIu64 ", %" PRIu64 " calls, %" PRIu64 " changed supervisors (%" PRIu64 " calls accepted on them), %" PRIu64
+           " traces read\nanswers 0 to 17:",
+           seed, calls, mutated, mutated_accepted, traces_read);
+    for (int i = 0; i < 18; i++) printf(" %" PRIu64, answered[i]);
+    printf("\n");
+    return 0;
+}

@@ -1,0 +1,224 @@
+//! Directed cases: a small text that gives a trace, what its reports show, and the listing worked out by hand.
+//!
+//!     provision k=1 thr=1,1 degm=2,2 mode=0,0 dis=0,0 s.names=0:5 p.names=16:7   (first line; what is not named is as here,
+//!                                                    names are zero but for the bytes named)
+//!     frames 3 [field=value ...]   good framing, MFAS counting up from 0 at the first frame, all else zero but the fields
+//!     zeros 62 [field=value ...]   the same without framing (columns 1 to 6 zero) and with MFAS zero; the count goes on unseen
+//!     to 63 [field=value ...]      frames up to and with the next whose count is 63 modulo 64
+//!     jump 9                       adds to the count
+//!     mark
+//!     repeat 7 ... end             not nested
+//!     expect head=3 dLOF !dLOM s.dTIM s.trace !p.trace      about the last frame
+//!     begins cLOF 1                up to here cLOF went from absent to standing so many times
+//!     bytes 45 00 01 00            raw bytes at this place
+//!     listing                      the rest of the file is the listing
+//!
+//! Fields: s. and p. before bdi, bei, count, tti; iae, stat, flags, mfas (a number, or off: the count with its highest bit turned),
+//! fas (six hex bytes with no spaces, or 2to5 and 3to5: only these columns right). tti=0:5 is a trace of zeros whose byte 0 is 5;
+//! which byte is sent goes by the count. # begins a comment, which in every case says how the listing was worked out.
+
+use crate::frame::{plain, Sent};
+use crate::generate::Item;
+use crate::provisioning::Provisioning;
+use crate::reader::Trace;
+use crate::report;
+use crate::supervisor::Supervisor;
+
+#[derive(Clone, Debug)]
+pub struct Case {
+    pub provisioning: Provisioning,
+    pub items: Vec<Item>,
+    pub bytes: Vec<u8>,
+    pub listing: String,
+    /// What an expectation of the text does not find.
+    pub unmet: Vec<String>,
+}
+
+fn number(text: &str) -> Result<u64, String> {
+    text.parse().map_err(|_| format!("{text:?} is not a number"))
+}
+
+fn two<T: TryFrom<u64>>(text: &str) -> Result<[T; 2], String> {
+    let mut both = text.split(',').map(|t| number(t).and_then(|v| T::try_from(v).map_err(|_| format!("{t} is too large"))));
+    match (both.next(), both.next(), both.next()) {
+        (Some(a), Some(b), None) => Ok([a?, b?]),
+        _ => Err(format!("{text:?} is not two numbers")),
+    }
+}
+
+fn byte_of(text: &str) -> Result<(usize, u8), String> {
+    let (at, value) = text.split_once(':').ok_or(format!("{text:?} is not place:value"))?;
+    Ok((number(at)? as usize, number(value)? as u8))
+}
+
+fn provision(fields: &[&str]) -> Result<Provisioning, String> {
+    let mut p = plain(1);
+    for field in fields {
+        let (key, value) = field.split_once('=').ok_or(format!("{field:?}"))?;
+        match key {
+            "k" => p.k = number(value)? as u8,
+            "thr" => p.degthr = two(value)?,
+            "degm" => p.degm = two(value)?,
+            "mode" => p.mode = two(value)?,
+            "dis" => p.dis = two(value)?,
+            "s.names" | "p.names" => {
+                let (at, byte) = byte_of(value)?;
+                p.names[usize::from(key == "p.names")][at] = byte;
+            }
+            _ => return Err(format!("{key:?} is no field")),
+        }
+    }
+    Ok(p)
+}
+
+fn frame(zeros: bool, count: u8, fields: &[&str]) -> Result<Sent, String> {
+    let mut f = if zeros { Sent::ZEROS } else { Sent::good(count) };
+    for field in fields {
+        let (key, value) = field.split_once('=').ok_or(format!("{field:?}"))?;
+        let (layer, key) = match key.split_once('.') {
+            Some(("s", key)) => (0, key),
+            Some(("p", key)) => (1, key),
+            _ => (2, key),
+        };
+        match (layer, key) {
+            (2, "iae") => f.iae = value == "1",
+            (2, "stat") => f.stat = number(value)? as u8,
+            (2, "flags") => f.flags = number(value)? as u8,
+            (2, "ignored") => f.ignored = number(value)? as u8,
+            (2, "mfas") if value == "off" => f.mfas = count ^ 0x80,
+            (2, "mfas") => f.mfas = number(value)? as u8,
+            (2, "fas") => {
+                let hex = match value {
+                    "2to5" => "00F6F6282800",
+                    "3to5" => "0000F6282800",
+                    other => other,
+                };
+                for i in 0..6 {
+                    f.fas[i] = u8::from_str_radix(hex.get(2 * i..2 * i + 2).unwrap_or("?"), 16).map_err(|e| e.to_string())?;
+                }
+            }
+            (0 | 1, "bdi") => f.bdi[layer] = value == "1",
+            (0 | 1, "bei") => f.bei[layer] = number(value)? as u8,
+            (0 | 1, "count") => f.violations[layer] = number(value)? as u8,
+            (0 | 1, "tti") => {
+                let (at, byte) = byte_of(value)?;
+                f.tti[layer] = if usize::from(count) % 64 == at { byte } else { 0 };
+            }
+            _ => return Err(format!("{field:?} is no field of a frame")),
+        }
+    }
+    Ok(f)
+}
+
+/// The case in a text, or the line that cannot be read.
+pub fn read(text: &str) -> Result<Case, String> {
+    let mut lines: Vec<(usize, String)> = Vec::new();
+    let mut listing = None;
+    let mut repeated: Option<(u64, Vec<(usize, String)>)> = None;
+    for (i, line) in text.lines().enumerate() {
+        if let Some(listing) = &mut listing {
+            if !line.starts_with('#') && !line.trim().is_empty() {
+                *listing += line;
+                *listing += "\n";
+            }
+            continue;
+        }
+        let line = line.split('#').next().unwrap().trim();
+        match (line.split_whitespace().next(), &mut repeated) {
+            (None, _) => {}
+            (Some("listing"), None) => listing = Some(String::new()),
+            (Some("repeat"), None) => repeated = Some((number(line[6..].trim())?, Vec::new())),
+            (Some("end"), Some(_)) => {
+                let (times, body) = repeated.take().unwrap();
+                for _ in 0..times {
+                    lines.extend(body.iter().cloned());
+                }
+            }
+            (Some(_), Some((_, body))) => body.push((i + 1, line.into())),
+            (Some(_), None) => lines.push((i + 1, line.into())),
+        }
+    }
+    let listing = listing.ok_or("no listing")?;
+    let mut lines = lines.into_iter();
+    let (at, head) = lines.next().ok_or("empty")?;
+    let fields: Vec<&str> = head.split_whitespace().collect();
+    if fields[0] != "provision" {
+        return Err(format!("line {at}: the first line provisions"));
+    }
+    let p = provision(&fields[1..]).map_err(|e| format!("line {at}: {e}"))?;
+    let mut trace = Trace::default();
+    trace.provisioning(&p);
+    let mut case = Case { provisioning: p.clone(), items: Vec::new(), bytes: Vec::new(), listing, unmet: Vec::new() };
+    let mut s = Supervisor::fresh(p);
+    let mut count = 0u8;
+    let mut word = 0u64;
+    let mut begins = [0u64; 64];
+    for (at, line) in lines {
+        let fail = |e: String| format!("line {at}: {e}");
+        let words: Vec<&str> = line.split_whitespace().collect();
+        match words[0] {
+            "frames" | "zeros" | "to" => {
+                let zeros = words[0] == "zeros";
+                let value = number(words.get(1).copied().unwrap_or("")).map_err(fail)?;
+                let mut left = if words[0] == "to" { u64::MAX } else { value };
+                while left > 0 {
+                    let f = frame(zeros, count, &words[2..]).map_err(fail)?;
+                    trace.frame(&f.overhead(), f.flags, f.violations[0], f.violations[1]);
+                    case.items.push(Item::Frame(f));
+                    if let Ok(answer) = s.step(&f.overhead(), f.flags, f.violations[0], f.violations[1]) {
+                        for (place, number) in begins.iter_mut().enumerate() {
+                            *number += (answer & !word) >> place & 1;
+                        }
+                        word = answer;
+                    }
+                    left = if words[0] == "to" && u64::from(count) % 64 == value { 0 } else { left - 1 };
+                    count = count.wrapping_add(1);
+                }
+            }
+            "jump" => count = count.wrapping_add(number(words[1]).map_err(fail)? as u8),
+            "mark" => {
+                trace.mark();
+                case.items.push(Item::Mark);
+                let _ = s.mark();
+            }
+            "bytes" => {
+                for hex in &words[1..] {
+                    trace.0.push(u8::from_str_radix(hex, 16).map_err(|e| fail(e.to_string()))?);
+                }
+            }
+            "begins" => {
+                let met = begins[place(words[1]).ok_or(fail(format!("{:?} is no bit", words[1])))? as usize];
+                if met != number(words[2]).map_err(fail)? {
+                    case.unmet.push(fail(format!("{} began {met} times", words[1])));
+                }
+            }
+            "expect" => {
+                for want in &words[1..] {
+                    let (stands, name) = match want.strip_prefix('!') {
+                        Some(name) => (false, name),
+                        None => (true, *want),
+                    };
+                    let met = match name {
+                        "s.trace" => s.trace(0, 64).is_ok(),
+                        "p.trace" => s.trace(1, 64).is_ok(),
+                        _ if name.starts_with("head=") => word >> 8 & 15 == number(&name[5..]).map_err(fail)?,
+                        _ => word >> place(name).ok_or(fail(format!("{name:?} is no bit")))? & 1 == 1,
+                    };
+                    if met != stands {
+                        case.unmet.push(fail(format!("{want} is not so")));
+                    }
+                }
+            }
+            other => return Err(fail(format!("{other:?}"))),
+        }
+    }
+    case.bytes = trace.0;
+    Ok(case)
+}
+
+/// Where a bit of the report stands, by the name used in the cases.
+fn place(name: &str) -> Option<u32> {
+    let standing = Default::default();
+    let all = report::bits(&standing);
+    all.iter().find(|(_, n, _)| n.replace("section ", "s.").replace("path ", "p.") == name).map(|(place, _, _)| *place)
+}

@@ -1,0 +1,158 @@
+//! The record of the frames, and the two questions most rules put to it.
+
+use std::collections::VecDeque;
+
+/// How far a look-back goes before it takes up the answer recorded there.
+pub const WINDOW: u64 = 64;
+/// How many frames are kept when a second is closed: three trace cycles and some.
+pub const KEPT: usize = 512;
+
+/// What one frame brought.
+#[derive(Clone, Copy, Debug, Default)]
+pub struct Received {
+    pub columns_2_to_5: bool,
+    pub columns_3_to_5: bool,
+    pub mfas: u8,
+    pub tti: [u8; 2],
+    pub bei: [u8; 2],
+    pub bdi: [bool; 2],
+    pub iae: bool,
+    pub stat: u8,
+    pub tsf: bool,
+    pub otu_ais: bool,
+    pub violations: [u8; 2],
+}
+
+impl Received {
+    pub fn of(overhead: &[u8], flags: u8, sm: u8, pm: u8) -> Received {
+        let at = |row: usize, column: usize| overhead[(row - 1) * 16 + column - 1];
+        let (s, p) = (at(1, 10), at(3, 12));
+        Received {
+            columns_2_to_5: (2..=5).map(|c| at(1, c)).eq([0xF6, 0xF6, 0x28, 0x28]),
+            columns_3_to_5: (3..=5).map(|c| at(1, c)).eq([0xF6, 0x28, 0x28]),
+            mfas: at(1, 7),
+            tti: [at(1, 8), at(3, 10)],
+            bei: [s >> 4, p >> 4],
+            bdi: [s & 8 != 0, p & 8 != 0],
+            iae: s & 4 != 0,
+            stat: p & 7,
+            tsf: flags & 1 != 0,
+            otu_ais: flags & 2 != 0,
+            violations: [sm, pm],
+        }
+    }
+}
+
+/// What stood after one frame.
+#[derive(Clone, Copy, Debug, Default, PartialEq, Eq)]
+pub struct Standing {
+    pub in_frame: bool,
+    /// The frame in which the present IM was entered and the MFAS it brought; none in OOM.
+    pub entered: Option<(u64, u8)>,
+    pub tsf: bool,
+    pub otu_ais: bool,
+    pub dlof: bool,
+    pub dlom: bool,
+    pub ssf: [bool; 2],
+    pub dtim: [bool; 2],
+    pub dbdi: [bool; 2],
+    pub diae: bool,
+    pub dbiae: bool,
+    pub stat: Option<u8>,
+    pub ddeg: [bool; 2],
+    pub acting: [bool; 2],
+}
+
+impl Standing {
+    /// The local number in frame `number`: the MFAS that entered IM and the frames since, modulo 256. None in OOM.
+    pub fn local(&self, number: u64) -> Option<u8> {
+        self.entered.map(|(frame, mfas)| mfas.wrapping_add(((number - frame) % 256) as u8))
+    }
+    pub fn dais(&self) -> bool {
+        self.stat == Some(0b111)
+    }
+    pub fn doci(&self) -> bool {
+        self.stat == Some(0b110)
+    }
+    pub fn dlck(&self) -> bool {
+        self.stat == Some(0b101)
+    }
+}
+
+#[derive(Clone, Copy, Debug)]
+pub struct Frame {
+    pub received: Received,
+    pub standing: Standing,
+}
+
+/// Frames by number, counted from 1. The oldest are dropped when they can no longer be asked for.
+#[derive(Clone, Debug, Default)]
+pub struct History {
+    frames: VecDeque<Frame>,
+    dropped: u64,
+}
+
+impl History {
+    pub fn last(&self) -> u64 {
+        self.dropped + self.frames.len() as u64
+    }
+    pub fn record(&mut self, received: Received) -> u64 {
+        self.frames.push_back(Frame { received, standing: Standing::default() });
+        self.last()
+    }
+    pub fn at(&self, number: u64) -> &Frame {
+        &self.frames[(number - self.dropped - 1) as usize]
+    }
+    pub fn standing_mut(&mut self, number: u64) -> &mut Standing {
+        let i = (number - self.dropped - 1) as usize;
+        &mut self.frames[i].standing
+    }
+    pub fn after(&self, number: u64) -> impl Iterator<Item = &Frame> {
+        self.frames.iter().skip((number - self.dropped) as usize)
+    }
+    pub fn forget_before_last(&mut self, kept: usize) {
+        while self.frames.len() > kept {
+            self.frames.pop_front();
+            self.dropped += 1;
+        }
+    }
+}
+
+/// Going back from `now`, and never to `forgotten` or before: the latest `n` in a row that are alike, and which. Without any,
+/// false. `recorded(u)` is the answer that this question had at `u`.
+pub fn latest_row(now: u64, forgotten: u64, n: u64, bit: impl Fn(u64) -> bool, recorded: impl Fn(u64) -> bool) -> bool {
+    let mut end = now;
+    while end >= forgotten + n {
+        if now - end >= WINDOW {
+            return recorded(end);
+        }
+        let which = bit(end);
+        if (end + 1 - n..end).all(|u| bit(u) == which) {
+            return which;
+        }
+        end -= 1;
+    }
+    false
+}
+
+/// The same with values instead of bits: the latest value met `n` times in a row, none without.
+pub fn latest_value(
+    now: u64,
+    forgotten: u64,
+    n: u64,
+    value: impl Fn(u64) -> u8,
+    recorded: impl Fn(u64) -> Option<u8>,
+) -> Option<u8> {
+    let mut end = now;
+    while end >= forgotten + n {
+        if now - end >= WINDOW {
+            return recorded(end);
+        }
+        let which = value(end);
+        if (end + 1 - n..end).all(|u| value(u) == which) {
+            return Some(which);
+        }
+        end -= 1;
+    }
+    None
+}

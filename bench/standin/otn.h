@@ -1,0 +1,16 @@
+/* The calls of the card, as the stand-in over plain.c offers them. The card's own header has the same names. */
+#ifndef OTN_H
+#define OTN_H
+#include <stddef.h>
+#include <stdint.h>
+
+#define OTN_SUPERVISOR_BYTES 592
+
+uint64_t otn_fresh(uint8_t *sup, size_t sup_len, uint8_t k, uint32_t sm_thr, uint8_t sm_degm, uint32_t pm_thr, uint8_t pm_degm,
+                   uint8_t sm_mode, uint8_t pm_mode, uint8_t sm_dis, uint8_t pm_dis, const uint8_t *sm_names,
+                   size_t sm_names_len, const uint8_t *pm_names, size_t pm_names_len);
+uint64_t otn_step(uint8_t *sup, size_t sup_len, const uint8_t *overhead, size_t overhead_len, uint8_t flags, uint8_t sm,
+                  uint8_t pm);
+uint64_t otn_mark(uint8_t *sup, size_t sup_len, uint8_t *record, size_t record_len);
+uint64_t otn_trace(const uint8_t *sup, size_t sup_len, uint8_t layer, uint8_t *out, size_t out_len);
+#endif
