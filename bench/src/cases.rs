@@ -1,17 +1,19 @@
 //! Directed cases: a small text that gives a trace, what its reports show, and the listing worked out by hand.
 //!
-//!     provision k=1 thr=1,1 degm=2,2 mode=0,0 dis=0,0 s.names=0:5 p.names=16:7   (first line; what is not named is as here,
-//!                                                    names are zero but for the bytes named)
-//!     frames 3 [field=value ...]   good framing, MFAS counting up from 0 at the first frame, all else zero but the fields
-//!     zeros 62 [field=value ...]   the same without framing (columns 1 to 6 zero) and with MFAS zero; the count goes on unseen
-//!     to 63 [field=value ...]      frames up to and with the next whose count is 63 modulo 64
-//!     jump 9                       adds to the count
-//!     mark
-//!     repeat 7 ... end             not nested
-//!     expect head=3 dLOF !dLOM s.dTIM s.trace !p.trace      about the last frame
-//!     begins cLOF 1                up to here cLOF went from absent to standing so many times
-//!     bytes 45 00 01 00            raw bytes at this place
-//!     listing                      the rest of the file is the listing
+//! ```text
+//! provision k=1 thr=1,1 degm=2,2 mode=0,0 dis=0,0 s.names=0:5 p.names=16:7   (first line; what is not named is as here,
+//!                                                names are zero but for the bytes named)
+//! frames 3 [field=value ...]   good framing, MFAS counting up from 0 at the first frame, all else zero but the fields
+//! zeros 62 [field=value ...]   the same without framing (columns 1 to 6 zero) and with MFAS zero; the count goes on unseen
+//! to 63 [field=value ...]      frames up to and with the next whose count is 63 modulo 64
+//! jump 9                       adds to the count
+//! mark
+//! repeat 7 ... end             not nested
+//! expect head=3 dLOF !dLOM s.dTIM s.trace !p.trace      about the last frame
+//! begins cLOF 1                up to here cLOF went from absent to standing so many times
+//! bytes 45 00 01 00            raw bytes at this place
+//! listing                      the rest of the file is the listing
+//! ```
 //!
 //! Fields: s. and p. before bdi, bei, count, tti; iae, stat, flags, mfas (a number, or off: the count with its highest bit turned),
 //! fas (six hex bytes with no spaces, or 2to5 and 3to5: only these columns right). tti=0:5 is a trace of zeros whose byte 0 is 5;
