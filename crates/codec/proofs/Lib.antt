@@ -1,0 +1,5 @@
+pub mod Overs
+pub mod Words
+pub mod Ranges
+pub mod Pieces
+pub mod Unique

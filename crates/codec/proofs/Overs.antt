@@ -1,0 +1,100 @@
+-- Laws of writing over: a byte, one writing after another, all of the bytes. Assumes nothing.
+use Prim.Native.Nat.{ℕ, zero, suc, _+_, _*_, _≤_, _<_}
+use mathlib.Core.Path.{_≡_, refl, _∙_, ap, sym}
+use mathlib.Core.Bool.{Bool, true, false, cond}
+use mathlib.Core.List.{List, [], _∷_, _++_, append-assoc, append-nil}
+use native.Mathlib.Nat.{add-assoc, add-zero}
+use native.Mathlib.Numerals.{add-one}
+use native.Mathlib.Omega.{arith}
+use lib.Dec.{leb, ltb}
+use lib.ListN.{length, getD, set, drop, take, length-drop, length-take, length-append, take-append-drop, drop-of-length-le}
+use lib.Seq.{drop-drop, take-at, drop-at, set-split, append-snoc, length-take-le, take-suc, take-all}
+use borrow.Author.Tests.{le-leb, lt-leb, ltb-true, ltb-false}
+use Rattle.answer.proofs.Cond.{by-cond}
+use Rattle.codec.specs.Over.{over, laid, leastOf, poured}
+
+pub over-nil : (d : List ℕ) (at : ℕ) → d ≡ over d at []
+unfolding over
+over-nil d at = rw (append-nil, add-zero, take-append-drop)
+
+pub set-over : (d : List ℕ) (at b : ℕ) → at < length d → set d at b ≡ over d at (b ∷ [])
+unfolding over
+set-over d at b h = rw (append-snoc, add-one) (set-split d at b h)
+
+pub over-length : (d : List ℕ) (at : ℕ) (v : List ℕ) → at + length v ≤ length d → length (over d at v) ≡ length d
+unfolding over
+over-length d at v h = simp (length-append, length-drop, length-take-le at d (omega arith)) (omega arith)
+
+-- what is written after what is written is one writing
+pub over-over : (d : List ℕ) (at n : ℕ) (v w : List ℕ) → at ≤ length d → n ≡ at + length v → over (over d at v) n w ≡ over d at (v ++ w)
+unfolding over
+over-over d at n v w h e =
+    let p : List ℕ = take at d ++ v in
+    let q : List ℕ = drop (at + length v) d in
+    let l : length p ≡ n = simp (length-append, length-take-le at d h) (sym e) in
+    rw (take-at p q n l, ← drop-drop (length w) n (p ++ q), drop-at p q n l, drop-drop (length w) (at + length v) d, length-append v w, add-assoc at (length v) (length w), append-assoc (take at d) v w)
+
+-- one byte more of a list that is copied over
+pub over-suc : (d src : List ℕ) (at i : ℕ) (out : List ℕ) → at + i < length out → length out ≡ length d → i < length src
+    → out ≡ over d at (take i src) → set out (at + i) (getD src i 0) ≡ over d at (take (i + 1) src)
+over-suc d src at i out h l k e =
+    set-over out (at + i) (getD src i 0) h
+    ∙ ap (λ (o : List ℕ). over o (at + i) (getD src i 0 ∷ [])) e
+    ∙ over-over d at (at + i) (take i src) (getD src i 0 ∷ []) (omega arith) (ap (λ (n : ℕ). at + n) (sym (length-take-le i src (omega arith))))
+    ∙ ap (over d at) (rw (add-one, take-suc src i 0))
+
+-- four bytes, one by one
+pub put4 : (d : List ℕ) (n a b c e : ℕ) → n + 4 ≤ length d
+    → set (set (set (set d n a) (n + 1) b) (n + 2) c) (n + 3) e ≡ over d n (a ∷ b ∷ c ∷ e ∷ [])
+put4 d n a b c e h =
+    let x1 = set-over d n a (omega arith) in
+    let l1 = over-length d n (a ∷ []) (omega arith) in
+    let x2 = set-over (over d n (a ∷ [])) (n + 1) b (omega arith) ∙ over-over d n (n + 1) (a ∷ []) (b ∷ []) (omega arith) refl in
+    let l2 = over-length d n (a ∷ b ∷ []) (omega arith) in
+    let x3 = set-over (over d n (a ∷ b ∷ [])) (n + 2) c (omega arith) ∙ over-over d n (n + 2) (a ∷ b ∷ []) (c ∷ []) (omega arith) refl in
+    let l3 = over-length d n (a ∷ b ∷ c ∷ []) (omega arith) in
+    let x4 = set-over (over d n (a ∷ b ∷ c ∷ [])) (n + 3) e (omega arith) ∙ over-over d n (n + 3) (a ∷ b ∷ c ∷ []) (e ∷ []) (omega arith) refl in
+    rw (x1, x2, x3) x4
+
+-- all of the bytes
+pub over-all : (d v : List ℕ) → length v ≡ length d → over d 0 v ≡ v
+unfolding over
+over-all d v e =
+    let h : length d ≤ 0 + length v = omega arith in
+    rw (drop-of-length-le d {i = 0 + length v} h) (append-nil v)
+
+-- where there is room
+pub laid-room : (d : List ℕ) (at : ℕ) (v : List ℕ) → at + length v ≤ length d → laid d at v ≡ over d at v
+unfolding laid
+laid-room d at v h = rw (le-leb (at + length v) (length d) h)
+
+-- what is copied byte by byte up to the lesser length is what there is room for
+pub least-low : (a b : ℕ) → leastOf a b ≤ b
+unfolding leastOf
+least-low a b = by-cond (λ (m : ℕ). m ≤ b) (ltb a b) (λ t. let h = ltb-true a b t in omega arith) (λ t. omega arith)
+
+pub least-left : (a b : ℕ) → leastOf a b ≤ a
+unfolding leastOf
+least-left a b = by-cond (λ (m : ℕ). m ≤ a) (ltb a b) (λ t. omega arith) (λ t. ltb-false a b t)
+
+pub take-least : (v d : List ℕ) → take (leastOf (length v) (length d)) v ≡ take (length d) v
+unfolding leastOf
+take-least v d =
+    by-cond (λ (m : ℕ). take m v ≡ take (length d) v) (ltb (length v) (length d))
+    (λ t. let h = ltb-true (length v) (length d) t in take-all (length v) v (omega arith) ∙ sym (take-all (length d) v (omega arith)))
+    (λ t. refl)
+
+-- what a writing leaves that asks first whether there is room for its k bytes
+pub laid-done : (d : List ℕ) (at k : ℕ) (v o : List ℕ) → length v ≡ k → at + k ≤ length d → o ≡ over d at v → o ≡ laid d at v
+laid-done d at k v o e h w = w ∙ sym (laid-room d at v (omega arith))
+
+pub laid-kept : (d : List ℕ) (at k : ℕ) (v : List ℕ) → length v ≡ k → length d < at + k → d ≡ laid d at v
+unfolding laid
+laid-kept d at k v e h =
+    let g : length d < at + length v = omega arith in
+    rw (lt-leb (at + length v) (length d) g)
+
+-- where there is room for just v
+pub poured-all : (d v : List ℕ) → length v ≡ length d → poured d v ≡ v
+unfolding poured
+poured-all d v e = ap (over d 0) (take-all (length d) v (omega arith)) ∙ over-all d v e

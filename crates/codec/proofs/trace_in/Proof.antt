@@ -1,0 +1,35 @@
+use Prim.Native.Nat.{ℕ, _+_, _*_, _-_, _≤_, _<_}
+use mathlib.Core.Path.{_≡_, refl, sym, ap, _∙_}
+use mathlib.Core.List.{List, [], _∷_, _++_}
+use native.Mathlib.Omega.{arith}
+use denote.Ref.{now}
+use Rattle.codec.proofs.Words.{bytes-room, bytes-beyond}
+use borrow.Author.Needs.{needs}
+use Rattle.codec.proofs.trace_in.Statement.{statement}
+use Rattle.codec.proofs.trace_in.Tie as tie
+use Rattle.codec.proofs.trace_in.Reads as reads
+use Rattle.codec.proofs.trace_in.Lts as lts
+use Rattle.codec.proofs.read_bytes.Reads as read-bytes-reads
+
+add-if1 : tie.Need-add-if1
+add-if1 c = search needs
+
+slice-aggregate-read-bytes : tie.Need-slice-aggregate-read-bytes
+slice-aggregate-read-bytes c = search needs
+
+read-bytes-requires : tie.Need-read-bytes-requires
+read-bytes-requires c κs = search needs
+
+returns : tie.Need-returns
+returns c =
+    let a = c .before .before .before .before .before .args in
+    c .before .read-bytes .ensures ∙ sym (bytes-room 64 (a .at) (now (a .b)) (omega arith))
+
+returns-2 : tie.Need-returns-2
+returns-2 c =
+    let a = c .before .before .args in
+    bytes-beyond 64 (a .at) (now (a .b)) (omega arith)
+
+pub trace-in-spec : {M : Type 1} → statement M
+trace-in-spec =
+    tie.close (tie.spec add-if1 slice-aggregate-read-bytes read-bytes-requires returns returns-2)

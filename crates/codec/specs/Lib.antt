@@ -1,0 +1,4 @@
+pub mod Words
+pub mod Over
+pub mod Ranges
+pub mod Pieces

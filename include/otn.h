@@ -1,0 +1,180 @@
+/* otn.h: a supervisor for the receiving end of one OTUk and the ODUk path in it, k = 1, 2 or 3.
+
+   Four calls on numbers and bytes. The supervisor is a buffer of OTN_SUPERVISOR_BYTES that the caller owns: otn_fresh fills it,
+   otn_step takes one frame's overhead, otn_mark closes a second, otn_trace reads an accepted trace. Link with libcard.a.
+
+   Every call takes any bytes and any numbers, and ends. Its answer's low byte is the refusal, 0 where the call is accepted
+   (otn_refusal); a refused call changes no byte that it was lent and answers nothing but that number. No check is owed beforehand
+   but what C cannot tell: each pointer is good for its length, and buffers that a call writes do not overlap the others. A buffer
+   of length 0 may have any pointer, NULL too.
+
+   The calls keep nothing between them: no global state, no allocation, no lock; the archive needs memcpy and nothing else. Two
+   supervisors may be called at the same time, one supervisor may not. A supervisor may be copied, stored and moved between machines
+   as bytes.
+
+   Stack: no call takes more than OTN_STACK_BYTES. Measured by tests/card.c on x86-64, which fails where one does: otn_step 4,120
+   bytes, otn_mark 2,920, otn_trace 2,472, otn_fresh 2,200. */
+#ifndef OTN_H
+#define OTN_H
+
+#include <stddef.h>
+#include <stdint.h>
+
+#ifdef __cplusplus
+extern "C" {
+#endif
+
+#define OTN_SUPERVISOR_BYTES 736
+#define OTN_OVERHEAD_BYTES 64
+#define OTN_RECORD_BYTES 80
+#define OTN_TRACE_BYTES 64
+#define OTN_NAMES_BYTES 32
+#define OTN_STACK_BYTES 4608
+
+/* Refusals, in the order in which they are checked: OTN_BAD_SUPERVISOR first, then by number. */
+enum otn_refusal {
+    OTN_ACCEPTED = 0,
+    OTN_BAD_OVERHEAD = 1,     /* overhead not 64 bytes */
+    OTN_BAD_FLAGS = 2,        /* flags above 3 */
+    OTN_BAD_COUNT = 3,        /* a violation count above 8 */
+    OTN_FULL = 4,             /* a frame when the open second holds 400,000; a mark when 4,294,967,295 seconds are closed */
+    OTN_BAD_K = 5,            /* k not 1 to 3 */
+    OTN_BAD_DEGTHR = 6,       /* DEGThr not 1 to 20,420 / 82,025 / 329,492 for k = 1 / 2 / 3 */
+    OTN_BAD_DEGM = 7,         /* DEGM not 2 to 10 */
+    OTN_BAD_MODE = 8,         /* trace mode above 3 */
+    OTN_BAD_TIMACTDIS = 9,    /* TIMActDis above 2 */
+    OTN_BAD_NAMES = 10,       /* expected names not 32 bytes */
+    OTN_BAD_LAYER = 11,       /* layer not 0 or 1 */
+    OTN_BAD_BUFFER = 12,      /* trace buffer not 64 bytes */
+    OTN_NO_TRACE = 13,        /* no accepted trace */
+    OTN_BAD_SUPERVISOR = 17   /* the supervisor's length, or a number in it beyond its range (docs/SUPERVISOR.md) */
+};
+
+/* Flags of a frame; both may stand. */
+#define OTN_FLAG_TSF_P 1    /* line signal fail */
+#define OTN_FLAG_OTUK_AIS 2 /* OTUk-AIS */
+
+/* Layers. */
+#define OTN_SECTION 0
+#define OTN_PATH 1
+
+/* Trace modes: what of an accepted trace is compared with the expected names. */
+#define OTN_MODE_OFF 0
+#define OTN_MODE_SAPI 1
+#define OTN_MODE_DAPI 2
+#define OTN_MODE_BOTH 3
+
+/* TIMActDis. */
+#define OTN_TIM_ACTS 0
+#define OTN_TIM_DISABLED 1
+#define OTN_TIM_DEFAULT 2 /* as OTN_TIM_ACTS */
+
+/* Heads: what a frame is filed under. */
+enum otn_head {
+    OTN_HEAD_CLEAR = 0,
+    OTN_HEAD_TSF_P = 1,
+    OTN_HEAD_OTUK_AIS = 2,
+    OTN_HEAD_LOF = 3,
+    OTN_HEAD_LOM = 4,
+    OTN_HEAD_SECTION_TIM = 5,
+    OTN_HEAD_AIS = 6,
+    OTN_HEAD_OCI = 7,
+    OTN_HEAD_LCK = 8,
+    OTN_HEAD_PATH_TIM = 9
+};
+
+/* A fresh supervisor in sup: out of frame, no defects, all counts zero. sup's old bytes are not looked at, only its length.
+   thr is DEGThr, degm DEGM, mode and dis as above; names are 32 expected bytes, SAPI then DAPI. sm is the section, pm the path.
+   Refuses 17 (length), then 5 to 10. */
+uint64_t otn_fresh(uint8_t *sup, size_t sup_len, uint8_t k, uint32_t sm_thr, uint8_t sm_degm, uint32_t pm_thr, uint8_t pm_degm,
+                   uint8_t sm_mode, uint8_t pm_mode, uint8_t sm_dis, uint8_t pm_dis, const uint8_t *sm_names, size_t sm_names_len,
+                   const uint8_t *pm_names, size_t pm_names_len);
+
+/* One frame: 64 bytes of overhead, rows 1 to 4 of columns 1 to 16; flags; the BIP-8 violation counts of SM and PM, 0 to 8.
+   Refuses 17, then 1 to 4. Accepted: the report, read by the OTN_ functions below. */
+uint64_t otn_step(uint8_t *sup, size_t sup_len, const uint8_t *overhead, size_t overhead_len, uint8_t flags, uint8_t sm, uint8_t pm);
+
+/* A mark: closes the second. Its record is 20 little-endian 32-bit words (OTN_FIGURE below). A record of another length gets the
+   first bytes that it has room for, and bytes beyond 80 are left alone. Refuses 17, then 4. */
+uint64_t otn_mark(uint8_t *sup, size_t sup_len, uint8_t *record, size_t record_len);
+
+/* The accepted trace of a layer, 64 bytes: SAPI is bytes 0 to 15, DAPI 16 to 31. sup is not changed. Refuses 17, then 11 to 13. */
+uint64_t otn_trace(const uint8_t *sup, size_t sup_len, uint8_t layer, uint8_t *out, size_t out_len);
+
+/* The refusal of any answer: 0 where the call was accepted. */
+static inline unsigned otn_refusal(uint64_t answer) { return (unsigned)(answer & 0xff); }
+
+/* The report of an accepted frame. IF, IM and every defect are as they stand after the frame. */
+static inline unsigned otn_report_bit(uint64_t report, unsigned bit) { return (unsigned)(report >> bit & 1); }
+static inline unsigned otn_head(uint64_t report) { return (unsigned)(report >> 8 & 15); }
+static inline unsigned otn_section_abei(uint64_t report) { return (unsigned)(report >> 33 & 15); }
+static inline unsigned otn_path_abei(uint64_t report) { return (unsigned)(report >> 40 & 15); }
+
+#define OTN_IF(r) otn_report_bit(r, 12)
+#define OTN_IM(r) otn_report_bit(r, 13)
+#define OTN_DLOF(r) otn_report_bit(r, 14)
+#define OTN_DLOM(r) otn_report_bit(r, 15)
+/* the section's SSF and defects */
+#define OTN_SECTION_SSF(r) otn_report_bit(r, 16)
+#define OTN_SECTION_DTIM(r) otn_report_bit(r, 17)
+#define OTN_SECTION_DBDI(r) otn_report_bit(r, 18)
+#define OTN_SECTION_DIAE(r) otn_report_bit(r, 19)
+#define OTN_SECTION_DBIAE(r) otn_report_bit(r, 20)
+#define OTN_SECTION_DDEG(r) otn_report_bit(r, 21)
+/* the path's */
+#define OTN_PATH_SSF(r) otn_report_bit(r, 22)
+#define OTN_PATH_DAIS(r) otn_report_bit(r, 23)
+#define OTN_PATH_DOCI(r) otn_report_bit(r, 24)
+#define OTN_PATH_DLCK(r) otn_report_bit(r, 25)
+#define OTN_PATH_DTIM(r) otn_report_bit(r, 26)
+#define OTN_PATH_DBDI(r) otn_report_bit(r, 27)
+#define OTN_PATH_DDEG(r) otn_report_bit(r, 28)
+/* actions */
+#define OTN_SECTION_ATSF(r) otn_report_bit(r, 29)
+#define OTN_SECTION_ATSD(r) otn_report_bit(r, 30)
+#define OTN_SECTION_ABDI(r) otn_report_bit(r, 31)
+#define OTN_SECTION_ABIAE(r) otn_report_bit(r, 32)
+#define OTN_SECTION_ABEI(r) otn_section_abei(r)
+#define OTN_PATH_ATSF(r) otn_report_bit(r, 37)
+#define OTN_PATH_ATSD(r) otn_report_bit(r, 38)
+#define OTN_PATH_ABDI(r) otn_report_bit(r, 39)
+#define OTN_PATH_ABEI(r) otn_path_abei(r)
+/* causes */
+#define OTN_CLOF(r) otn_report_bit(r, 44)
+#define OTN_CLOM(r) otn_report_bit(r, 45)
+#define OTN_SECTION_CTIM(r) otn_report_bit(r, 46)
+#define OTN_SECTION_CDEG(r) otn_report_bit(r, 47)
+#define OTN_SECTION_CBDI(r) otn_report_bit(r, 48)
+#define OTN_SECTION_CSSF(r) otn_report_bit(r, 49)
+#define OTN_PATH_COCI(r) otn_report_bit(r, 50)
+#define OTN_PATH_CLCK(r) otn_report_bit(r, 51)
+#define OTN_PATH_CTIM(r) otn_report_bit(r, 52)
+#define OTN_PATH_CDEG(r) otn_report_bit(r, 53)
+#define OTN_PATH_CBDI(r) otn_report_bit(r, 54)
+#define OTN_PATH_CSSF(r) otn_report_bit(r, 55)
+
+/* The figures of a closed second, read from a record of OTN_RECORD_BYTES. */
+enum otn_figure {
+    OTN_SECOND = 0,       /* its number, from 1 */
+    OTN_FRAMES = 1,
+    OTN_UNDER = 2,        /* OTN_UNDER + head: frames under the head, 0 to 9 */
+    OTN_SECTION_NEAR = 12,
+    OTN_SECTION_FAR = 13,
+    OTN_SECTION_NEAR_DS = 14,
+    OTN_SECTION_FAR_DS = 15,
+    OTN_PATH_NEAR = 16,
+    OTN_PATH_FAR = 17,
+    OTN_PATH_NEAR_DS = 18,
+    OTN_PATH_FAR_DS = 19
+};
+
+static inline uint32_t otn_figure(const uint8_t *record, unsigned figure) {
+    const uint8_t *b = record + 4 * figure;
+    return (uint32_t)b[0] | (uint32_t)b[1] << 8 | (uint32_t)b[2] << 16 | (uint32_t)b[3] << 24;
+}
+
+#ifdef __cplusplus
+}
+#endif
+
+#endif
