@@ -1,0 +1,4 @@
+pub mod Shifts
+pub mod Lines
+pub mod Turns
+pub mod Refills

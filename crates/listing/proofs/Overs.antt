@@ -1,0 +1,185 @@
+-- Laws of `over`, of the decimal digits and of the line. Assumes nothing.
+use Prim.Native.Nat.{ℕ, zero, suc, _+_, _-_, _*_, _/_, _%_, _^_, _≤_, _<_}
+use mathlib.Core.Path.{_≡_, refl, _∙_, ap, sym}
+use mathlib.Core.Bool.{Bool, true, false, cond}
+use mathlib.Core.List.{List, [], _∷_, _++_, append-assoc, append-nil}
+use native.Mathlib.Nat.{add-assoc, add-zero, pow-suc, pow-zero, pow-le-pow-right, mod-eq-of-lt}
+use native.Mathlib.Numerals.{add-one}
+use native.Mathlib.Omega.{arith}
+use lib.Dec.{leb, ltb}
+use lib.ListN.{length, getD, set, drop, take, length-drop, length-take, length-append, take-append-drop}
+use lib.Seq.{drop-drop, take-at, drop-at, set-split, append-snoc, length-take-le, take-suc, drop-append-add, take-all}
+use borrow.Author.Tests.{lt-ltb, le-ltb, lt-leb, le-leb, leb-true, leb-false}
+use Rattle.answer.proofs.Cond.{by-cond}
+use Rattle.io.specs.Digits.{digits, glyph, Fewest}
+use Rattle.listing.specs.Text.{over, decimalIn, decimalOf, fieldOf, fieldsOf, lineOf, fitted}
+
+pub over-nil : (d : List ℕ) (at : ℕ) → d ≡ over d at []
+unfolding over
+over-nil d at = rw (append-nil, add-zero, take-append-drop)
+
+pub set-over : (d : List ℕ) (at b : ℕ) → at < length d → set d at b ≡ over d at (b ∷ [])
+unfolding over
+set-over d at b h = rw (append-snoc, add-one) (set-split d at b h)
+
+pub over-length : (d : List ℕ) (at : ℕ) (v : List ℕ) → at + length v ≤ length d → length (over d at v) ≡ length d
+unfolding over
+over-length d at v h = simp (length-append, length-drop, length-take-le at d (omega arith)) (omega arith)
+
+-- what is written after what is written is one writing
+pub over-over : (d : List ℕ) (at n : ℕ) (v w : List ℕ) → at ≤ length d → n ≡ at + length v → over (over d at v) n w ≡ over d at (v ++ w)
+unfolding over
+over-over d at n v w h e =
+    let p : List ℕ = take at d ++ v in
+    let q : List ℕ = drop (at + length v) d in
+    let l : length p ≡ n = simp (length-append, length-take-le at d h) (sym e) in
+    rw (take-at p q n l, ← drop-drop (length w) n (p ++ q), drop-at p q n l, drop-drop (length w) (at + length v) d, length-append v w, add-assoc at (length v) (length w), append-assoc (take at d) v w)
+
+pow-pos-10 : (j : ℕ) → 1 ≤ 10 ^ j
+pow-pos-10 zero = omega (arith, pow-zero 10)
+pow-pos-10 (suc j) = omega (arith, pow-suc 10 j, pow-pos-10 j)
+
+-- the digits that `io::decimal` gives are those of `decimalIn`
+pub digits-decimal : (k f n : ℕ) → k ≤ f → Fewest 10 1 n k → digits 10 k n ≡ decimalIn f n
+unfolding decimalIn
+digits-decimal zero f n l h = absurd (omega (arith, h .0))
+digits-decimal (suc zero) zero n l h = absurd (omega arith)
+digits-decimal (suc zero) (suc f) n l h =
+    let u : n < 10 = h .1 in
+    rw (mod-eq-of-lt u, lt-ltb n 10 u)
+digits-decimal (suc (suc j)) zero n l h = absurd (omega arith)
+digits-decimal (suc (suc j)) (suc f) n l h =
+    let z : suc (suc j) - 1 ≡ suc j = omega arith in
+    let low : 10 ^ suc j ≤ n = rw z at (h .2 (omega arith)) in
+    let one : 1 ≤ 10 ^ j = pow-pos-10 j in
+    let x : 10 ^ suc j ≡ 10 ^ j * 10 = pow-suc 10 j in
+    let y : 10 ^ suc (suc j) ≡ 10 ^ suc j * 10 = pow-suc 10 (suc j) in
+    let one-less : suc j - 1 ≡ j = omega arith in
+    let m : n % 10 < 10 = omega arith in
+    rw (le-ltb n 10 (omega arith), lt-ltb (n % 10) 10 m)
+    (ap (λ (d : List ℕ). d ++ ((48 + n % 10) ∷ [])) (digits-decimal (suc j) f (n / 10) (omega arith) (omega arith, omega (arith, h .1), λ _. rw one-less (omega arith))))
+
+pub fields-suc : (ns : List ℕ) (i : ℕ) → i < length ns → fieldsOf (take (suc i) ns) ≡ fieldsOf (take i ns) ++ fieldOf (getD ns i 0)
+unfolding fieldsOf
+fields-suc [] i h = absurd (omega arith)
+fields-suc (n ∷ ns) zero h = rw append-nil
+fields-suc (n ∷ ns) (suc i) h = ap (λ (l : List ℕ). fieldOf n ++ l) (fields-suc ns i (omega arith)) ∙ sym (append-assoc (fieldOf n) (fieldsOf (take i ns)) (fieldOf (getD ns i 0)))
+
+-- a writing after a writing, with the lists between
+pub then : (d : List ℕ) (at p : ℕ) (v w o₁ o₂ : List ℕ) → at ≤ length d → p ≡ at + length v → o₁ ≡ over d at v → o₂ ≡ over o₁ p w → o₂ ≡ over d at (v ++ w)
+then d at p v w o₁ o₂ h e x y = y ∙ ap (λ (o : List ℕ). over o p w) x ∙ over-over d at p v w h e
+
+-- one byte more of a list that is copied over
+pub over-suc : (d src : List ℕ) (at i : ℕ) (out : List ℕ) → at + i < length out → length out ≡ length d → i < length src
+    → out ≡ over d at (take i src) → set out (at + i) (getD src i 0) ≡ over d at (take (i + 1) src)
+over-suc d src at i out h l k e =
+    set-over out (at + i) (getD src i 0) h
+    ∙ ap (λ (o : List ℕ). over o (at + i) (getD src i 0 ∷ [])) e
+    ∙ over-over d at (at + i) (take i src) (getD src i 0 ∷ []) (omega arith) (ap (λ (n : ℕ). at + n) (sym (length-take-le i src (omega arith))))
+    ∙ ap (over d at) (rw (add-one, take-suc src i 0))
+
+-- a number below 2 ^ 64 has at most 20 digits
+pub at-most : (k n : ℕ) → n < 2 ^ 64 → Fewest 10 1 n k → k ≤ 20
+at-most k n u h = by (leb k 20) refl
+  where
+    by : (b : Bool) → leb k 20 ≡ b → k ≤ 20
+    by true p = leb-true k 20 p
+    by false p =
+        let l = leb-false k 20 p in
+        let low : 10 ^ (k - 1) ≤ n = h .2 (omega arith) in
+        let ten : 0 < 10 = omega arith in
+        let g : 20 ≤ k - 1 = omega arith in
+        let m : 10 ^ 20 ≤ 10 ^ (k - 1) = pow-le-pow-right ten g in
+        absurd (omega arith)
+
+-- a blank and the digits that `io::decimal` put are the field
+pub field-is : (k n : ℕ) → n < 2 ^ 64 → Fewest 10 1 n k → (32 ∷ []) ++ digits 10 k n ≡ fieldOf n
+unfolding fieldOf
+field-is k n u h = ap (λ (l : List ℕ). 32 ∷ l) (digits-decimal k 20 n (at-most k n u h) h)
+
+-- what holds in the loop over the numbers: i of them are written, from a place on
+pub record Fields (d : List ℕ) (from : ℕ) (ns o : List ℕ) (at i : ℕ) : Type 0 where
+  pub within : i ≤ length ns
+  pub long : length o ≡ length d
+  pub bound : at ≤ from + 21 * i
+  pub place : at ≡ from + length (fieldsOf (take i ns))
+  pub text : o ≡ over d from (fieldsOf (take i ns))
+
+pub fields-none : (d : List ℕ) (from : ℕ) (ns : List ℕ) → Fields d from ns d from 0
+unfolding fieldsOf
+fields-none d from ns = record { within = omega arith; long = refl; bound = omega arith; place = omega arith; text = over-nil d from }
+
+pub fields-more : (d : List ℕ) (from : ℕ) (ns o : List ℕ) (at i r : ℕ) (o₂ : List ℕ) → Fields d from ns o at i → i < length ns → from ≤ length d
+    → r ≡ at + length (fieldOf (getD ns i 0)) → r ≤ at + 21 → o₂ ≡ over o at (fieldOf (getD ns i 0)) → length o₂ ≡ length o → Fields d from ns o₂ r (i + 1)
+fields-more d from ns o at i r o₂ f h l p q t g =
+    let e : fieldsOf (take i ns) ++ fieldOf (getD ns i 0) ≡ fieldsOf (take (i + 1) ns) = rw add-one (sym (fields-suc ns i h)) in
+    record {
+      within = omega arith;
+      long = g ∙ f .long;
+      bound = omega (arith, f .bound);
+      place = omega (arith, p, f .place, simp length-append at (ap length e));
+      text = then d from at (fieldsOf (take i ns)) (fieldOf (getD ns i 0)) o o₂ l (f .place) (f .text) t ∙ ap (over d from) e;
+    }
+
+pub fields-all : (d : List ℕ) (from : ℕ) (ns o : List ℕ) (at i : ℕ) → Fields d from ns o at i → length ns ≤ i → (at ≡ from + length (fieldsOf ns)) × (at ≤ from + 21 * length ns) × (o ≡ over d from (fieldsOf ns))
+fields-all d from ns o at i f h =
+    let e : take i ns ≡ ns = take-all i ns h in
+    (f .place ∙ ap (λ (l : List ℕ). from + length (fieldsOf l)) e, omega (arith, f .bound, f .within), f .text ∙ ap (λ (l : List ℕ). over d from (fieldsOf l)) e)
+
+-- what is put where there is room
+pub record Put (d : List ℕ) (at : ℕ) (r : ℕ) (o v : List ℕ) : Type 0 where
+  pub place : r ≡ at + length v
+  pub text : o ≡ over d at v
+
+-- what was put, and then more
+pub put-then : (d : List ℕ) (at p r : ℕ) (v w o₁ o₂ : List ℕ) → at ≤ length d → Put d at p o₁ v → Put o₁ p r o₂ w → Put d at r o₂ (v ++ w)
+put-then d at p r v w o₁ o₂ h x y = record {
+  place = rw length-append (omega (arith, x .place, y .place));
+  text = then d at p v w o₁ o₂ h (x .place) (x .text) (y .text);
+}
+
+-- a letter, the text of the numbers and a line end, one after the other, are the line
+pub line-put : (d : List ℕ) (at letter : ℕ) (ns : List ℕ) (p q r : ℕ) (o₁ o₂ o₃ : List ℕ) → at ≤ length d
+    → Put d at p o₁ (letter ∷ []) → Put o₁ p q o₂ (fieldsOf ns) → Put o₂ q r o₃ (10 ∷ []) → Put d at r o₃ (lineOf letter ns)
+unfolding lineOf
+line-put d at letter ns p q r o₁ o₂ o₃ h x y z =
+    put-then d at q r (letter ∷ fieldsOf ns) (10 ∷ []) o₂ o₃ h (put-then d at p q (letter ∷ []) (fieldsOf ns) o₁ o₂ h x y) z
+
+-- two numbers, one after the other
+pub pair-put : (d : List ℕ) (at a b p q : ℕ) (o₁ o₂ : List ℕ) → at ≤ length d → Put d at p o₁ (fieldOf a) → Put o₁ p q o₂ (fieldOf b) → Put d at q o₂ (fieldsOf (a ∷ b ∷ []))
+unfolding fieldsOf
+pair-put d at a b p q o₁ o₂ h x y = rw append-nil (put-then d at p q (fieldOf a) (fieldOf b) o₁ o₂ h x y)
+
+-- a line is put where there is room
+pub fits : (d : List ℕ) (at room r : ℕ) (o v : List ℕ) → room ≤ length d - at → Put d at r o v
+    → (r ≡ at + length (fitted (length d) at room v)) × (o ≡ over d at (fitted (length d) at room v))
+unfolding fitted
+fits d at room r o v h x = rw (le-leb room (length d - at) h) (x .place, x .text)
+
+pub fits-not : (d : List ℕ) (at room : ℕ) (v : List ℕ) → length d - at < room
+    → (at ≡ at + length (fitted (length d) at room v)) × (d ≡ over d at (fitted (length d) at room v))
+unfolding fitted
+fits-not d at room v h = rw (lt-leb room (length d - at) h) (omega arith, over-nil d at)
+
+-- a line is all of what is put where there is room
+pub fitted-is : (long at room : ℕ) (v : List ℕ) → at + room ≤ long → fitted long at room v ≡ v
+unfolding fitted
+fitted-is long at room v h =
+    let l : room ≤ long - at = omega arith in
+    rw (le-leb room (long - at) l)
+
+-- no number takes more than 21 bytes, and so no line more than its room
+decimal-length : (f n : ℕ) → length (decimalIn f n) ≤ f
+unfolding decimalIn
+decimal-length zero n = omega arith
+decimal-length (suc f) n =
+    by-cond (λ (l : List ℕ). length l ≤ suc f) (ltb n 10) (λ _. omega arith) (λ _. rw length-append (omega (arith, decimal-length f (n / 10))))
+
+fields-length : (ns : List ℕ) → length (fieldsOf ns) ≤ 21 * length ns
+unfolding fieldsOf fieldOf
+fields-length [] = omega arith
+fields-length (n ∷ ns) = rw length-append (omega (arith, decimal-length 20 n, fields-length ns))
+
+pub line-length : (letter : ℕ) (ns : List ℕ) → length (lineOf letter ns) ≤ 2 + 21 * length ns
+unfolding lineOf
+line-length letter ns = rw length-append (omega (arith, fields-length ns))

@@ -1,0 +1,30 @@
+-- No second answer, and no second content of the lent buffer, meets the contract of a public function. Assumes nothing.
+use mathlib.Core.Path.{_≡_, sym, _∙_}
+use mathlib.Core.List.{List}
+use Prim.Native.Nat.{ℕ}
+use denote.Ref.{now}
+use Rattle.answer.specs.Answer.{OneAnswer, OneEnd}
+use Rattle.listing.proofs.second_line.Kinds as second-kinds
+use Rattle.listing.proofs.second_line.Reads as second-reads
+use Rattle.listing.proofs.refusal_line.Kinds as refusal-kinds
+use Rattle.listing.proofs.refusal_line.Reads as refusal-reads
+use Rattle.listing.proofs.end_line.Kinds as end-kinds
+use Rattle.listing.proofs.end_line.Reads as end-reads
+
+pub second-one : OneAnswer 1 second-kinds.ps second-kinds.r second-reads.Post
+second-one κs a x y s t p q = p .0 ∙ sym (q .0)
+
+pub second-end : OneEnd 1 second-kinds.ps second-kinds.r (List ℕ) (λ κs s. now (s .1 .0)) second-reads.Post
+second-end κs a x y s t p q = p .1 ∙ sym (q .1)
+
+pub refusal-one : OneAnswer 1 refusal-kinds.ps refusal-kinds.r refusal-reads.Post
+refusal-one κs a x y s t p q = p .0 ∙ sym (q .0)
+
+pub refusal-end : OneEnd 1 refusal-kinds.ps refusal-kinds.r (List ℕ) (λ κs s. now (s .1 .1 .0)) refusal-reads.Post
+refusal-end κs a x y s t p q = p .1 ∙ sym (q .1)
+
+pub end-one : OneAnswer 1 end-kinds.ps end-kinds.r end-reads.Post
+end-one κs a x y s t p q = p .0 ∙ sym (q .0)
+
+pub end-end : OneEnd 1 end-kinds.ps end-kinds.r (List ℕ) (λ κs s. now (s .1 .1 .0)) end-reads.Post
+end-end κs a x y s t p q = p .1 ∙ sym (q .1)

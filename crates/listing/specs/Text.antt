@@ -1,0 +1,54 @@
+-- The text of the listing's lines (document 01, "Trace records and the listing"). Assumes nothing.
+use Prim.Native.Nat.{ℕ, zero, suc, _+_, _-_, _/_, _%_}
+use mathlib.Core.Bool.{Bool, true, false, cond}
+use mathlib.Core.List.{List, [], _∷_, _++_}
+use lib.ListN.{length, take, drop}
+use lib.Dec.{leb, ltb}
+
+-- the decimal digits of a number, of f digits at most: a digit d is the byte 48 + d
+unfoldable pub decimalIn : ℕ → ℕ → List ℕ
+decimalIn zero n = []
+decimalIn (suc f) n = cond (ltb n 10) ((48 + n) ∷ []) (decimalIn f (n / 10) ++ ((48 + n % 10) ∷ []))
+
+-- the decimal digits of a number of 64 bits, of which none has more than 20
+abbrev pub decimalOf : ℕ → List ℕ
+decimalOf n = decimalIn 20 n
+
+-- a blank and a number
+unfoldable pub fieldOf : ℕ → List ℕ
+fieldOf n = 32 ∷ decimalOf n
+
+unfoldable pub fieldsOf : List ℕ → List ℕ
+fieldsOf [] = []
+fieldsOf (n ∷ ns) = fieldOf n ++ fieldsOf ns
+
+-- a line: a letter, numbers each after a blank, a line end
+unfoldable pub lineOf : ℕ → List ℕ → List ℕ
+lineOf letter ns = (letter ∷ fieldsOf ns) ++ (10 ∷ [])
+
+-- "S: second from 1, frames, heads 0 to 9, section near blocks, far blocks, near DS, far DS, then the path's four."
+abbrev pub secondLine : List ℕ → List ℕ
+secondLine figures = lineOf 83 figures
+
+-- "A refusal prints `R`, its number and the record's byte offset"
+abbrev pub refusalLine : ℕ → ℕ → List ℕ
+refusalLine number offset = lineOf 82 (number ∷ offset ∷ [])
+
+-- "E: marks and frames accepted."
+abbrev pub endLine : ℕ → ℕ → List ℕ
+endLine marks frames = lineOf 69 (marks ∷ frames ∷ [])
+
+-- a list with v written over it from a place on
+unfoldable pub over : List ℕ → ℕ → List ℕ → List ℕ
+over d at v = take at d ++ v ++ drop (at + length v) d
+
+-- what is written at a place of a buffer of a length: a line where the buffer has its room there, otherwise nothing
+unfoldable pub fitted : ℕ → ℕ → ℕ → List ℕ → List ℕ
+fitted long at room line = cond (leb room (long - at)) line []
+
+-- the room that a line is given: two bytes, and 21 for each number
+abbrev pub secondRoom : ℕ
+secondRoom = 422
+
+abbrev pub pairRoom : ℕ
+pairRoom = 44

@@ -1,0 +1,6 @@
+pub mod Records
+pub mod Scans
+pub mod Streams
+pub mod Counts
+pub mod Unique
+pub mod Figures

@@ -1,0 +1,131 @@
+-- Laws of `takenOf` and `runFrom`, and those of one turn of the loop of `scan`. Assumes nothing.
+use Prim.Native.Nat.{ℕ, zero, suc, pred, _+_, _-_, _≤_, _<_}
+use mathlib.Core.Path.{_≡_, refl, _∙_, ap, sym}
+use mathlib.Core.Bool.{Bool, true, false, cond}
+use mathlib.Core.List.{List, [], _∷_, _++_}
+use native.Mathlib.Nat.{add-zero}
+use native.Mathlib.Omega.{arith}
+use lib.Dec.{eqb}
+use lib.ListN.{length, drop, length-drop, drop-of-length-le}
+use lib.Seq.{drop-drop}
+use borrow.Author.Tests.{eq-eqb, ne-eqb}
+use Rattle.trace.specs.Record.{recordOf, recordAt, refusalOf, sizeOf, bodyOf, framesIn, Within}
+use Rattle.trace.specs.Scan.{refusedOf, appliedOf, takenOf, runFrom, runOf}
+use Rattle.trace.specs.declared.Record.{Record}
+use Rattle.trace.specs.declared.Record.the-variants.{Frame, Mark, Provisioning, Refused}
+use Rattle.trace.specs.declared.State.{State}
+use Rattle.trace.specs.declared.Taken.{Taken}
+use Rattle.trace.specs.declared.Run.{Run}
+use Rattle.trace.specs.declared.Stop.the-variants as stop
+use Rattle.trace.proofs.Records.{Whole, whole-record, within-at, record-append, body-append}
+
+-- an accepted record is none that is refused, and lies within; it has four bytes at least, and is one frame at most
+pub record Sized (ys : List ℕ) (r : Record) : Type 0 where
+  pub good : refusalOf r ≡ 0
+  pub some : 4 ≤ sizeOf r
+  pub most : sizeOf r ≤ 83
+  pub long : sizeOf r ≤ length ys
+  pub one : framesIn r ≤ 1
+
+sized-by : (st : State) (ys body : List ℕ) (r : Record) → Whole ys r → appliedOf st r body .refusal ≡ 0 → Sized ys r
+sized-by st ys body Frame h e = record { good = refl; some = omega arith; most = omega arith; long = h; one = omega arith }
+sized-by st ys body Mark h e = record { good = refl; some = omega arith; most = omega arith; long = h; one = omega arith }
+sized-by st ys body Provisioning h e = record { good = refl; some = omega arith; most = omega arith; long = h; one = omega arith }
+sized-by st ys body (Refused n) h e = absurd (omega (arith, h .0, e))
+
+pub sized : (st : State) (ys : List ℕ) → takenOf st ys .refusal ≡ 0 → Sized ys (recordOf ys)
+unfolding takenOf
+sized st ys e = sized-by st ys (bodyOf (recordOf ys) ys) (recordOf ys) (whole-record ys) e
+
+-- a record that is refused itself is taken with its refusal
+applied-refused : (st : State) (body : List ℕ) (r : Record) (n : ℕ) → r ≡ Refused n → appliedOf st r body ≡ refusedOf st n
+applied-refused st body r n e = rw e
+
+refused-some : (ys : List ℕ) (r : Record) (n : ℕ) → Whole ys r → r ≡ Refused n → 0 < n
+refused-some ys r n h e = (rw e at h) .0
+
+-- A record whose taking is not refused as cut is taken alike from every longer list.
+by-good : (st : State) (zs ys : List ℕ) (r : Record) → Whole zs r → appliedOf st r (bodyOf r (zs ++ ys)) ≡ appliedOf st r (bodyOf r zs)
+by-good st zs ys Frame h = ap (appliedOf st Frame) (body-append zs ys Frame refl h)
+by-good st zs ys Mark h = refl
+by-good st zs ys Provisioning h = ap (appliedOf st Provisioning) (body-append zs ys Provisioning refl h)
+by-good st zs ys (Refused n) h = refl
+
+pub taken-append : (st : State) (zs ys : List ℕ) → (takenOf st zs .refusal ≡ 14 → ⊥)
+    → (takenOf st (zs ++ ys) ≡ takenOf st zs) × (recordOf (zs ++ ys) ≡ recordOf zs)
+unfolding takenOf
+taken-append st zs ys n =
+    let e : recordOf (zs ++ ys) ≡ recordOf zs = record-append zs ys (λ z. n (ap (λ (r : Record). appliedOf st r (bodyOf (recordOf zs) zs) .refusal) z)) in
+    (ap (λ (r : Record). appliedOf st r (bodyOf r (zs ++ ys))) e ∙ by-good st zs ys (recordOf zs) (whole-record zs), e)
+
+-- the run: skipping
+skipped : (ys : List ℕ) (k at n : ℕ) (st : State) → k ≤ length ys → runFrom ys k at n st ≡ runFrom (drop k ys) 0 (at + k) n st
+unfolding runFrom
+skipped ys zero at n st h = rw add-zero
+skipped (y ∷ ys) (suc k) at n st h =
+    skipped ys k (at + 1) n st (omega arith) ∙ ap (λ (m : ℕ). runFrom (drop k ys) 0 m n st) (omega arith)
+skipped [] (suc k) at n st h = absurd (omega arith)
+
+-- the run at a list: its end, a refusal, a second closed, and on
+pub run-end : (s : List ℕ) (at n : ℕ) (st : State) → length s ≤ at → runOf s at n st ≡ record { at = at; frames = n; stop = stop.More; state = st }
+unfolding runFrom
+run-end s at n st h = rw (drop-of-length-le s h)
+
+pub run-refused : (ys : List ℕ) (at n : ℕ) (st : State) → 0 < length ys → (takenOf st ys .refusal ≡ 0 → ⊥)
+    → runFrom ys 0 at n st ≡ record { at = at; frames = n; stop = stop.Refused (takenOf st ys .refusal) at; state = st }
+unfolding runFrom
+run-refused [] at n st h z = absurd (omega arith)
+run-refused (y ∷ ys) at n st h z = rw (ne-eqb _ _ z)
+
+pub run-closed : (ys : List ℕ) (at n : ℕ) (st : State) → 0 < length ys → takenOf st ys .refusal ≡ 0 → takenOf st ys .closed ≡ true
+    → runFrom ys 0 at n st ≡ record { at = at + sizeOf (recordOf ys); frames = n + framesIn (recordOf ys); stop = stop.Closed; state = takenOf st ys .state }
+unfolding runFrom
+run-closed [] at n st h e c = absurd (omega arith)
+run-closed (y ∷ ys) at n st h e c = rw (eq-eqb _ _ e, c)
+
+on-by : (y : ℕ) (ys : List ℕ) (m at n : ℕ) (st : State) → 0 < m → m ≤ length (y ∷ ys) → runFrom ys (pred m) (at + 1) n st ≡ runFrom (drop m (y ∷ ys)) 0 (at + m) n st
+on-by y ys zero at n st h l = absurd (omega arith)
+on-by y ys (suc k) at n st h l = skipped ys k (at + 1) n st (omega arith) ∙ ap (λ (m : ℕ). runFrom (drop k ys) 0 m n st) (omega arith)
+
+pub run-on : (ys : List ℕ) (at n : ℕ) (st : State) → takenOf st ys .refusal ≡ 0 → takenOf st ys .closed ≡ false
+    → runFrom ys 0 at n st ≡ runFrom (drop (sizeOf (recordOf ys)) ys) 0 (at + sizeOf (recordOf ys)) (n + framesIn (recordOf ys)) (takenOf st ys .state)
+unfolding runFrom
+run-on [] at n st e c = let z = sized st [] e in absurd (omega (arith, z .some, z .long))
+run-on (y ∷ ys) at n st e c =
+    let z = sized st (y ∷ ys) e in
+    rw (eq-eqb _ _ e, c) (on-by y ys (sizeOf (recordOf (y ∷ ys))) at (n + framesIn (recordOf (y ∷ ys))) (takenOf st (y ∷ ys) .state) (omega (arith, z .some)) (z .long))
+
+-- The same at a position of s, with the record r that stands there and what was taken of it, t: what the loop of `scan` cites.
+module _ (s : List ℕ) (at n : ℕ) (st : State) (r : Record) (er : r ≡ recordAt s at) (h : at < length s) where
+  some : 0 < length (drop at s)
+  some = simp length-drop (omega arith)
+
+  pub within : Within s at r
+  within = rw er (within-at s at (recordOf (drop at s)) h (whole-record (drop at s)))
+
+  module _ (t : Taken) (et : t ≡ appliedOf st r (bodyOf r (drop at s))) where
+    taken-is : t ≡ takenOf st (drop at s)
+    unfolding takenOf
+    taken-is = et ∙ ap (λ (q : Record). appliedOf st q (bodyOf q (drop at s))) er
+
+    pub refused : (t .refusal ≡ 0 → ⊥) → runOf s at n st ≡ record { at = at; frames = n; stop = stop.Refused (t .refusal) at; state = st }
+    refused z = rw taken-is (run-refused (drop at s) at n st some (rw taken-is at z))
+
+    pub room : t .refusal ≡ 0 → (4 ≤ sizeOf r) × (at + sizeOf r ≤ length s) × (framesIn r ≤ 1)
+    room e =
+        let z = sized st (drop at s) (rw taken-is at e) in
+        rw er (z .some, omega (arith, simp length-drop at (z .long)), z .one)
+
+    pub closed : t .refusal ≡ 0 → t .closed ≡ true → runOf s at n st ≡ record { at = at + sizeOf r; frames = n + framesIn r; stop = stop.Closed; state = t .state }
+    closed e c = rw (taken-is, er) (run-closed (drop at s) at n st some (rw taken-is at e) (rw taken-is at c))
+
+    pub on : t .refusal ≡ 0 → t .closed ≡ false → runOf s at n st ≡ runOf s (at + sizeOf r) (n + framesIn r) (t .state)
+    on e c =
+        rw (taken-is, er, ← drop-drop)
+        (run-on (drop at s) at n st (rw taken-is at e) (rw taken-is at c))
+
+  -- a refusal of the record itself
+  pub refused-itself : (m : ℕ) → r ≡ Refused m → runOf s at n st ≡ record { at = at; frames = n; stop = stop.Refused m at; state = st }
+  refused-itself m e =
+      let l = refused-some (drop at s) (recordOf (drop at s)) m (whole-record (drop at s)) (sym er ∙ e) in
+      refused (refusedOf st m) (sym (applied-refused st (bodyOf r (drop at s)) r m e)) (λ z. omega (arith, l, z))

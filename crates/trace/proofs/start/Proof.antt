@@ -1,0 +1,17 @@
+use borrow.Author.Needs.{needs}
+use Rattle.trace.proofs.start.Statement.{statement}
+use Rattle.trace.proofs.start.Tie as tie
+use Rattle.trace.proofs.start.Reads as reads
+use Rattle.trace.proofs.start.Lts as lts
+use Rattle.supervisor.proofs.blank.Reads as blank-reads
+
+-- src/lib.rt:143:9
+blank-requires : tie.Need-blank-requires
+blank-requires c κs = search needs
+
+-- src/lib.rt:140:1
+returns : tie.Need-returns
+returns c = simp (← c .blank .ensures)
+
+pub start-spec : {M : Type 1} → statement M
+start-spec = tie.close (tie.spec blank-requires returns)

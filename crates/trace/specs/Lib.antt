@@ -1,0 +1,5 @@
+pub mod Record
+pub mod Scan
+pub mod Stream
+pub mod Counts
+pub mod Figures

@@ -1,0 +1,91 @@
+-- A record taken, and the scan of a buffer's records (document 01, "Trace records and the listing"). Assumes nothing.
+use Prim.Native.Nat.{ℕ, zero, suc, pred, _+_, _≤_}
+use mathlib.Core.Bool.{Bool, true, false, cond}
+use mathlib.Core.List.{List, [], _∷_}
+use lib.ListN.{length, getD, drop, take, replicate}
+use lib.Dec.{eqb}
+use Rattle.supervisor.specs.declared.settings.Request.{Request}
+use Rattle.supervisor.specs.declared.Provisioned.{Provisioned}
+use Rattle.supervisor.specs.declared.Stepped.{Stepped}
+use Rattle.supervisor.specs.declared.Marked.{Marked}
+use Rattle.supervisor.specs.Supervisor.{blankSupervisor, provisionOf, stepOf, markOf}
+use Rattle.trace.specs.declared.Record.{Record}
+use Rattle.trace.specs.declared.Record.the-variants.{Frame, Mark, Provisioning, Refused}
+use Rattle.trace.specs.declared.State.{State}
+use Rattle.trace.specs.declared.Taken.{Taken}
+use Rattle.trace.specs.declared.Run.{Run}
+use Rattle.trace.specs.declared.Stop.{Stop}
+use Rattle.trace.specs.declared.Stop.the-variants as stop
+use Rattle.trace.specs.Record.{fourAt, recordOf, sizeOf, bodyOf, framesIn}
+
+-- what a scan starts with: no provisioning met, no second closed
+abbrev pub startOf : State
+startOf = record { begun = false; sup = blankSupervisor; last = replicate 20 0 }
+
+-- a record refused: nothing is changed
+abbrev pub refusedOf : State → ℕ → Taken
+refusedOf st n = record { refusal = n; closed = false; state = st }
+
+-- "Kind 1, length 69: overhead, flags, SM count, PM count."
+abbrev pub stepIn : State → List ℕ → Stepped
+stepIn st body = stepOf (st .sup) (take 64 body) (getD body 64 0) (getD body 65 0) (getD body 66 0)
+
+-- "Kind 3, length 81: k, SM DEGThr (4), SM DEGM, PM DEGThr (4), PM DEGM, SM mode, PM mode, SM TIMActDis, PM TIMActDis, SM names (32), PM
+-- names (32)."
+abbrev pub sectionIn : List ℕ → Request
+sectionIn body = record { thr = fourAt body 1; degm = getD body 5 0; mode = getD body 11 0; dis = getD body 13 0 }
+
+abbrev pub pathIn : List ℕ → Request
+pathIn body = record { thr = fourAt body 6; degm = getD body 10 0; mode = getD body 12 0; dis = getD body 14 0 }
+
+abbrev pub provisionIn : List ℕ → Provisioned
+provisionIn body = provisionOf (getD body 0 0) (sectionIn body) (pathIn body) (take 32 (drop 15 body)) (take 32 (drop 47 body))
+
+-- A frame, a mark and a provisioning taken. "then 16, then the rest": 16 is "first record not a provisioning (kind 3), or a later one is",
+-- and the rest are the call's own.
+unfoldable pub framedOf : State → List ℕ → Taken
+framedOf st body =
+    cond (st .begun)
+    (record { refusal = stepIn st body .refusal; closed = false; state = record { begun = true; sup = stepIn st body .supervisor; last = st .last } })
+    (refusedOf st 16)
+
+unfoldable pub markedOf : State → Taken
+markedOf st =
+    cond (st .begun)
+    (record { refusal = markOf (st .sup) .refusal; closed = true; state = record { begun = true; sup = markOf (st .sup) .supervisor; last = markOf (st .sup) .figures } })
+    (refusedOf st 16)
+
+unfoldable pub provisionedOf : State → List ℕ → Taken
+provisionedOf st body =
+    cond (st .begun)
+    (refusedOf st 16)
+    (record { refusal = provisionIn body .refusal; closed = false; state = record { begun = true; sup = provisionIn body .supervisor; last = st .last } })
+
+-- a record with its body, taken in a state
+abbrev pub appliedOf : State → Record → List ℕ → Taken
+appliedOf st Frame body = framedOf st body
+appliedOf st Mark body = markedOf st
+appliedOf st Provisioning body = provisionedOf st body
+appliedOf st (Refused n) body = refusedOf st n
+
+-- the record that a list begins with, taken in a state
+unfoldable pub takenOf : State → List ℕ → Taken
+takenOf st ys = appliedOf st (recordOf ys) (bodyOf (recordOf ys) ys)
+
+-- The run over a list of bytes, from the place `at` on, n frames before it: skip the rest of the present record, then take the next. It
+-- ends at the first record refused, at one that closes a second, and at the end.
+unfoldable pub runFrom : List ℕ → ℕ → ℕ → ℕ → State → Run
+runFrom [] skip at n st = record { at = at; frames = n; stop = stop.More; state = st }
+runFrom (y ∷ ys) (suc k) at n st = runFrom ys k (at + 1) n st
+runFrom (y ∷ ys) zero at n st =
+    let r : Record = recordOf (y ∷ ys) in
+    let t : Taken = takenOf st (y ∷ ys) in
+    cond (eqb (t .refusal) 0)
+    (cond (t .closed)
+    (record { at = at + sizeOf r; frames = n + framesIn r; stop = stop.Closed; state = t .state })
+    (runFrom ys (pred (sizeOf r)) (at + 1) (n + framesIn r) (t .state)))
+    (record { at = at; frames = n; stop = stop.Refused (t .refusal) at; state = st })
+
+-- the run over a list from a position on
+abbrev pub runOf : List ℕ → ℕ → ℕ → State → Run
+runOf s at n st = runFrom (drop at s) 0 at n st

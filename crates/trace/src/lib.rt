@@ -1,0 +1,321 @@
+// The records of a trace: what stands at a position, and the scan of a buffer's records.
+use supervisor::Request;
+use supervisor::Supervisor;
+ghost use mathlib.Core.Path.{_≡_};
+ghost use Prim.Native.Nat.{_+_, _<_, _≤_};
+ghost use lib.ListN.{length, drop};
+ghost use Rattle.trace.specs.Record.{recordAt, lengthOf, ofKind, Within, twoAt, fourAt, sizeOf, bodyOf, framesIn};
+ghost use Rattle.trace.specs.Scan.{startOf, sectionIn, pathIn, framedOf, markedOf, provisionedOf, appliedOf, runOf};
+
+// One record. A body stands after the length and the kind, four bytes from the record's start.
+pub enum Record {
+    Frame,
+    Mark,
+    Provisioning,
+    Refused(u8),
+}
+
+// What a scan carries: whether a provisioning was met, the supervisor since, and the figures of the second that was closed last.
+pub struct State {
+    pub begun: bool,
+    pub sup: Supervisor,
+    pub last: [u32; 20],
+}
+
+// One record taken: its refusal, 0 where it was accepted; whether it closed a second; the state after it.
+pub struct Taken {
+    pub refusal: u8,
+    pub closed: bool,
+    pub state: State,
+}
+
+// Why a run over a buffer's records stops: none is left, a second was closed, a record at an offset was refused.
+pub enum Stop {
+    More,
+    Closed,
+    Refused { number: u8, offset: usize },
+}
+
+// Where and why a run stopped, the frames accepted in it, and the state there.
+pub struct Run {
+    pub at: usize,
+    pub frames: usize,
+    pub stop: Stop,
+    pub state: State,
+}
+
+// A byte as a wide number: a call asks nothing for the cast.
+fn wide(x: u8) -> usize
+    ensures { λ r. ⌜ (r ≡ x) × (r < 256) ⌝ }
+{
+    x as usize
+}
+
+// Two bytes, the low one first.
+fn two_at(s: &[u8], at: usize) -> usize
+    requires { ⌜ at + 1 < length (now s) ⌝ }
+    ensures { λ r. ⌜ (r ≡ twoAt (now (s .entry)) at) × (r < 65536) ⌝ }
+{
+    wide(s[at]) + 256 * wide(s[at + 1])
+}
+
+// Four bytes, the low one first.
+fn four_at(s: &[u8], at: usize) -> u32
+    requires { ⌜ at + 3 < length (now s) ⌝ }
+    ensures { λ r. ⌜ r ≡ fourAt (now (s .entry)) at ⌝ }
+{
+    let low = two_at(s, at);
+    let high = two_at(s, at + 2);
+    (low + 65536 * high) as u32
+}
+
+// The record of a kind.
+fn of_kind(kind: usize) -> Record
+    ensures { λ r. ⌜ r ≡ ofKind kind ⌝ }
+{
+    if kind == 1 {
+        return Record::Frame;
+    }
+    if kind == 2 {
+        return Record::Mark;
+    }
+    if kind == 3 {
+        return Record::Provisioning;
+    }
+    Record::Refused(15)
+}
+
+// The length that a record says, 0 where it is refused.
+fn length_of(r: Record) -> usize
+    ensures { λ n. ⌜ n ≡ lengthOf r ⌝ }
+{
+    match r {
+        Record::Frame => 69,
+        Record::Mark => 2,
+        Record::Provisioning => 81,
+        Record::Refused(_) => 0,
+    }
+}
+
+// How many frames a record is.
+fn frames_in(r: Record) -> usize
+    ensures { λ n. ⌜ n ≡ framesIn r ⌝ }
+{
+    match r {
+        Record::Frame => 1,
+        Record::Mark => 0,
+        Record::Provisioning => 0,
+        Record::Refused(_) => 0,
+    }
+}
+
+// The record at a position of s; past the end of s there is none, as in a cut one.
+pub fn record_at(s: &[u8], at: usize) -> Record
+    ensures { λ r. ⌜ r ≡ recordAt (now (s .entry)) at ⌝ }
+{
+    if s.len() <= at {
+        return Record::Refused(14);
+    }
+    let left = s.len() - at;
+    if left < 4 {
+        return Record::Refused(14);
+    }
+    let said = two_at(s, at);
+    let kind = two_at(s, at + 2);
+    let r = of_kind(kind);
+    let want = length_of(r);
+    if want == 0 {
+        return Record::Refused(15);
+    }
+    if said != want {
+        return Record::Refused(15);
+    }
+    if left < want + 2 {
+        return Record::Refused(14);
+    }
+    r
+}
+
+// What a scan starts with.
+pub fn start() -> State
+    ensures { λ r. ⌜ r ≡ startOf ⌝ }
+{
+    let none = supervisor::blank();
+    State {
+        begun: false,
+        sup: none,
+        last: [0; 20],
+    }
+}
+
+// A frame taken: refusal 16 comes before the supervisor's.
+fn take_frame(st: State, body: &[u8]) -> Taken
+    requires { ⌜ length (now body) ≡ 67 ⌝ }
+    ensures { λ t. ⌜ t ≡ framedOf st (now (body .entry)) ⌝ }
+{
+    if st.begun {
+        let sup = st.sup;
+        let last = st.last;
+        let a = supervisor::step(sup, &body[0..64], body[64], body[65], body[66]);
+        let next = a.supervisor;
+        return Taken {
+            refusal: a.refusal,
+            closed: false,
+            state: State {
+                begun: true,
+                sup: next,
+                last: last,
+            },
+        };
+    }
+    Taken {
+        refusal: 16,
+        closed: false,
+        state: st,
+    }
+}
+
+fn take_mark(st: State) -> Taken
+    ensures { λ t. ⌜ t ≡ markedOf st ⌝ }
+{
+    if st.begun {
+        let sup = st.sup;
+        let a = supervisor::mark(sup);
+        let next = a.supervisor;
+        let figures = a.figures;
+        return Taken {
+            refusal: a.refusal,
+            closed: true,
+            state: State {
+                begun: true,
+                sup: next,
+                last: figures,
+            },
+        };
+    }
+    Taken {
+        refusal: 16,
+        closed: false,
+        state: st,
+    }
+}
+
+// What a provisioning asks for the section and for the path.
+fn section_in(body: &[u8]) -> Request
+    requires { ⌜ length (now body) ≡ 79 ⌝ }
+    ensures { λ r. ⌜ r ≡ sectionIn (now (body .entry)) ⌝ }
+{
+    let thr = four_at(body, 1);
+    Request {
+        thr: thr,
+        degm: body[5],
+        mode: body[11],
+        dis: body[13],
+    }
+}
+
+fn path_in(body: &[u8]) -> Request
+    requires { ⌜ length (now body) ≡ 79 ⌝ }
+    ensures { λ r. ⌜ r ≡ pathIn (now (body .entry)) ⌝ }
+{
+    let thr = four_at(body, 6);
+    Request {
+        thr: thr,
+        degm: body[10],
+        mode: body[12],
+        dis: body[14],
+    }
+}
+
+fn take_provisioning(st: State, body: &[u8]) -> Taken
+    requires { ⌜ length (now body) ≡ 79 ⌝ }
+    ensures { λ t. ⌜ t ≡ provisionedOf st (now (body .entry)) ⌝ }
+{
+    if st.begun {
+        return Taken {
+            refusal: 16,
+            closed: false,
+            state: st,
+        };
+    }
+    let last = st.last;
+    let section = section_in(body);
+    let path = path_in(body);
+    let a = supervisor::provision(body[0], section, path, &body[15..47], &body[47..79]);
+    let next = a.supervisor;
+    Taken {
+        refusal: a.refusal,
+        closed: false,
+        state: State {
+            begun: true,
+            sup: next,
+            last: last,
+        },
+    }
+}
+
+// The record at a position of s taken.
+fn applied(st: State, r: Record, s: &[u8], at: usize) -> Taken
+    requires { ⌜ Within (now s) at r ⌝ }
+    ensures { λ t. ⌜ t ≡ appliedOf st r (bodyOf r (drop at (now (s .entry)))) ⌝ }
+{
+    match r {
+        Record::Frame => {
+            let start = at + 4;
+            let end = start + 67;
+            take_frame(st, &s[start..end])
+        }
+        Record::Mark => take_mark(st),
+        Record::Provisioning => {
+            let start = at + 4;
+            let end = start + 79;
+            take_provisioning(st, &s[start..end])
+        }
+        Record::Refused(no) => Taken {
+            refusal: no,
+            closed: false,
+            state: st,
+        },
+    }
+}
+
+// Takes the records of s from a position on, until one is refused, one closes a second, or none is left.
+pub fn scan(st: State, s: &[u8], from: usize) -> Run
+    ensures { λ r. ⌜ r ≡ runOf (now (s .entry)) from 0 st ⌝ }
+{
+    let mut at = from;
+    let mut frames = 0;
+    let mut state = st;
+    let stop = loop {
+        if s.len() <= at {
+            break Stop::More;
+        }
+        let rec = record_at(s, at);
+        let Record::Refused(no) = rec else {
+            let t = applied(state, rec, s, at);
+            if t.refusal != 0 {
+                break Stop::Refused {
+                    number: t.refusal,
+                    offset: at,
+                };
+            }
+            state = t.state;
+            frames += frames_in(rec);
+            at += length_of(rec) + 2;
+            if t.closed {
+                break Stop::Closed;
+            }
+            continue;
+        };
+        break Stop::Refused {
+            number: no,
+            offset: at,
+        };
+    };
+    Run {
+        at,
+        frames,
+        stop,
+        state,
+    }
+}
