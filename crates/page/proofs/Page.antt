@@ -335,8 +335,8 @@ module _ (turn : Stood → Turn) (im : (x : Stood) → turn x .inmulti ≡ x .st
       let a : s .layers .align .multi .inmulti ≡ true = sym (e .0) ∙ (sym (im x) ∙ i) in
       let b : framed s f .layers .align .multi .inmulti ≡ true = sym (stood-multi s f) ∙ (sym (im (stoodAt s f)) ∙ j) in
       let g : framed s f .layers .align .multi .number ≡ (s .layers .align .multi .number + 1) % 256 =
-          ap (λ (z : Multi). z .number) (multi-step s f)
-          ∙ grows (s .layers .align .multi) (framed s f .layers .align .framing .inframe) (overheadOf (f .overhead) .mfas) a (sym (ap (λ (z : Multi). z .inmulti) (multi-step s f)) ∙ b) in
+      ap (λ (z : Multi). z .number) (multi-step s f)
+      ∙ grows (s .layers .align .multi) (framed s f .layers .align .framing .inframe) (overheadOf (f .overhead) .mfas) a (sym (ap (λ (z : Multi). z .inmulti) (multi-step s f)) ∙ b) in
       number (stoodAt s f) ∙ g ∙ ap (λ (n : ℕ). (n + 1) % 256) (sym (e .1) ∙ sym (number x))
 
   steady : (s : Supervisor) (l : List Stood) (h : List Event) → Latest s l → Steady (map turn l) → Steady (map turn (stoodBack s l h))
