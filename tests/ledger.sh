@@ -6,11 +6,7 @@ work=$(mktemp -d)
 trap 'rm -rf "$work"' EXIT
 [ -x target/bin/ledger ] || rt check ledger || exit 1
 cc -O2 -Wall -Wextra -o "$work/trace" tests/trace.c || exit 1
-# The program is compiled for x86-64, and `rt` runs it under the kit's loader and C library, elsewhere under the kit's emulator: so here too.
-kit=$(dirname "$(dirname "$(rt doc)")")/on/$(uname -m)/toolchain
-ledger=()
-[ ! -x "$kit/bin/qemu-x86_64" ] || ledger+=("$kit/bin/qemu-x86_64")
-ledger+=("$kit/lib/ld-linux-x86-64.so.2" --library-path "$kit/lib" "$PWD/target/bin/ledger")
+ledger=(bin/ledger)
 passed=0
 failed=0
 
