@@ -364,7 +364,9 @@ static void depths(void) {
     }
 }
 
-int main(void) {
+/* With a word on the command line the stack is not measured: valgrind does not bear the change of stacks. */
+int main(int words, char **word) {
+    (void)word;
     memset(room, 0xc3, sizeof room);
     refusals_of_fresh();
     refusals_of_step();
@@ -373,7 +375,7 @@ int main(void) {
     ranges();
     frames();
     fences();
-    depths();
+    if (words == 1) depths();
     for (int i = 0; i < GUARD; i++) check(room[i] == 0xc3 && room[GUARD + OTN_SUPERVISOR_BYTES + i] == 0xc3, "no byte around the supervisor");
     printf("card.c: %d checks, %d failed\n", checks, failed);
     return failed != 0;

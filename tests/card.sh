@@ -38,7 +38,7 @@ cmp "$out/firmware.txt" examples/firmware.txt
 echo "firmware.c: its listing is examples/firmware.txt"
 
 if [ "$(uname -m)" = x86_64 ] && command -v valgrind >/dev/null; then
-    valgrind --quiet --error-exitcode=1 "$out/card" >/dev/null
+    valgrind --quiet --error-exitcode=1 "$out/card" nostack >/dev/null
     valgrind --quiet --error-exitcode=1 "$out/firmware" >/dev/null
     echo "valgrind: no error"
 else
