@@ -12,8 +12,8 @@
    supervisors may be called at the same time, one supervisor may not. A supervisor may be copied, stored and moved between machines
    as bytes.
 
-   Stack: no call takes more than OTN_STACK_BYTES. Measured by tests/card.c on x86-64, which fails where one does: otn_step 4,120
-   bytes, otn_mark 2,920, otn_trace 2,472, otn_fresh 2,200. */
+   Stack: no call takes more than OTN_STACK_BYTES. Measured by tests/card.c on x86-64, which fails where one does: otn_step 3,704
+   bytes, otn_mark 2,552, otn_trace 1,464, otn_fresh 1,992. */
 #ifndef OTN_H
 #define OTN_H
 

@@ -1,13 +1,13 @@
 -- Laws of the image: written piece by piece it is whole, and a supervisor in its ranges is read back from it. Assumes nothing.
 use mathlib.Core.Path.{_≡_, refl, sym, ap, _∙_}
 use mathlib.Core.Bool.{Bool, true, false, _&&_}
-use mathlib.Core.List.{List, [], _∷_, _++_}
+use mathlib.Core.List.{List, [], _∷_, _++_, append-nil}
 use Prim.Native.Nat.{ℕ, zero, suc, _+_, _*_, _%_, _≤_, _<_}
 use native.Mathlib.Nat.{mod-eq-of-lt}
 use native.Mathlib.Omega.{arith}
 use lib.Dec.{eqb}
-use lib.ListN.{length, getD, take, drop}
-use lib.Seq.{take-at}
+use lib.ListN.{length, getD, take, drop, drop-of-length-le}
+use lib.Seq.{take-at, take-all}
 use borrow.Author.Tests.{eq-eqb, eqb-true}
 use Rattle.answer.proofs.Cond.{and-left, and-right}
 use Rattle.codec.specs.Words.{flat, wordsOf, wordsIn, bytesIn}
@@ -21,7 +21,7 @@ use Rattle.layer.specs.declared.Layer.{Layer}
 use Rattle.supervisor.specs.declared.settings.Settings.{Settings}
 use Rattle.supervisor.specs.declared.Supervisor.{Supervisor}
 use Rattle.card.specs.declared.image.Numbers.{Numbers}
-use Rattle.card.specs.Image.{numbersOf, numbersIn, ranged, numberPieces, tracePieces, namePieces, piecesOf, bytesOf, Traces, Names, Arrays, Stored}
+use Rattle.card.specs.Image.{numbersOf, numbersIn, ranged, supervisorOf, loadOf, numberPieces, tracePieces, namePieces, piecesOf, bytesOf, Traces, Names, Arrays, Stored}
 
 -- twelve words are 48 bytes
 words : (w : List ℕ) → length w ≡ 12 → length (flat w) ≡ 48
@@ -62,6 +62,12 @@ pub length-bytes : (s : Supervisor) → Arrays s → length (bytesOf s) ≡ 736
 unfolding bytesOf
 length-bytes s a = length-joined (piecesOf s) (sized s a)
 
+-- read from the bytes under their length
+pub load-all : (b : List ℕ) (n : Numbers) (s : Supervisor) → length b ≡ 736 → n ≡ numbersIn (take 736 b) → s ≡ supervisorOf (take 736 b) n
+    → s ≡ loadOf b
+unfolding loadOf
+load-all b n s h e f = f ∙ ap (supervisorOf (take 736 b)) e ∙ ap (λ (x : List ℕ). supervisorOf x (numbersIn x)) (take-all 736 b (omega arith))
+
 pub stored : (s : Supervisor) (n : Numbers) (b0 b1 b2 b3 b4 : List ℕ) → n ≡ numbersOf s
     → b1 ≡ lays b0 0 (numberPieces n) → b2 ≡ lays b1 288 (tracePieces (s .layers .section .layer))
     → b3 ≡ lays b2 480 (tracePieces (s .layers .path .layer)) → b4 ≡ lays b3 672 (namePieces (s .settings)) → b4 ≡ lays b0 0 (piecesOf s)
@@ -75,6 +81,13 @@ whole-image b s after h t =
     let whole : lays b 0 (piecesOf s) ≡ over b 0 (joined (piecesOf s)) = lays-over b 0 (piecesOf s) (sized s a) (omega arith) in
     let long : length (joined (piecesOf s)) ≡ length b = length-joined (piecesOf s) (sized s a) ∙ sym h in
     t .holds ∙ whole ∙ over-all b (joined (piecesOf s)) long
+
+-- written under their length, they are all of the bytes
+pub store-all : (b : List ℕ) (s : Supervisor) (x : List ℕ) → length b ≡ 736 → Stored (take 736 b) s x → x ++ drop 736 b ≡ bytesOf s
+store-all b s x h t =
+    let e : take 736 b ≡ b = take-all 736 b (omega arith) in
+    let k : drop 736 b ≡ [] = drop-of-length-le b {i = 736} (omega arith) in
+    ap (λ (r : List ℕ). x ++ r) k ∙ append-nil x ∙ whole-image (take 736 b) s x (ap length e ∙ h) t
 
 -- pieces laid one after the other, by the lists between
 pub numbers-laid : (n : Numbers) (b0 b1 b2 b3 b4 b5 b6 : List ℕ) → b1 ≡ laid b0 0 (flat (n .settings)) → b2 ≡ laid b1 48 (flat (n .align))

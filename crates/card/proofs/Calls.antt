@@ -21,18 +21,14 @@ use Rattle.supervisor.specs.declared.Provisioned.{Provisioned}
 use Rattle.supervisor.specs.declared.Stepped.{Stepped}
 use Rattle.supervisor.specs.declared.Marked.{Marked}
 use Rattle.supervisor.specs.declared.Traced.{Traced}
-use Rattle.card.specs.declared.Loaded.{Loaded}
 use Rattle.card.specs.Image.{numbersIn, ranged, sound, loadOf, bytesOf}
 use Rattle.card.specs.Report.{reportWord}
-use Rattle.card.specs.Calls.{loadedOf, Provision, freshRefusal, freshBy, freshSup, FreshCall, callRefusal, callAnswer, callSup, StepCall, markRefusal, markSup, figuresAt, markRecord, MarkCall, traceChecks, traceRefused, traceOut, TraceCall}
+use Rattle.card.specs.Calls.{Provision, freshRefusal, freshBy, freshSup, FreshCall, callRefusal, callAnswer, callSup, StepCall, markRefusal, markSup, figuresAt, markRecord, MarkCall, traceChecks, traceRefused, traceOut, TraceCall}
 
 -- sound bytes have their length
 pub sound-long : (sup : List ℕ) → sound sup ≡ true → length sup ≡ 736
 unfolding sound
 sound-long sup e = eqb-true _ _ (and-left (eqb (length sup) 736) (ranged (numbersIn sup)) e)
-
-pub loaded-sound : (sup : List ℕ) (l : Loaded) (b : Bool) → l ≡ loadedOf sup → l .sound ≡ b → sound sup ≡ b
-loaded-sound sup l b e s = sym (ap (λ (x : Loaded). x .sound) e) ∙ s
 
 -- an answer by value that is one thing where the refusal is 0 and another where it is not has that refusal
 settled : (A : Type 0) (numbered : A → ℕ) (n : ℕ) (x y : A) → numbered x ≡ 0 → numbered y ≡ n → numbered (cond (eqb n 0) x y) ≡ n
@@ -105,24 +101,24 @@ module _ (sup overhead : List ℕ) (flags sm pm : ℕ) where
   unfolding callRefusal stepRefusal
   call-number e = rw e
 
-  pub step-bad : (l : Loaded) → l ≡ loadedOf sup → l .sound ≡ false → StepCall sup overhead flags sm pm 17 sup
+  pub step-bad : sound sup ≡ false → StepCall sup overhead flags sm pm 17 sup
   unfolding callAnswer callSup
-  step-bad l e b =
-      let z = call-17 (loaded-sound sup l false e b) in
+  step-bad b =
+      let z = call-17 b in
       record { answers = rw z; holds = rw z }
 
-  module _ (l : Loaded) (o : Stepped) (e : l ≡ loadedOf sup) (b : l .sound ≡ true) (h : o ≡ stepOf (l .supervisor) overhead flags sm pm) where
+  module _ (s : Supervisor) (o : Stepped) (e : s ≡ loadOf sup) (b : sound sup ≡ true) (h : o ≡ stepOf s overhead flags sm pm) where
     of-loaded : o ≡ stepOf (loadOf sup) overhead flags sm pm
-    of-loaded = h ∙ ap (λ (x : Loaded). stepOf (x .supervisor) overhead flags sm pm) e
+    of-loaded = h ∙ ap (λ (x : Supervisor). stepOf x overhead flags sm pm) e
 
     number-is : callRefusal sup overhead flags sm pm ≡ o .refusal
-    number-is = call-number (loaded-sound sup l true e b) ∙ sym (step-number (loadOf sup) overhead flags sm pm) ∙ ap (λ (x : Stepped). x .refusal) (sym of-loaded)
+    number-is = call-number b ∙ sym (step-number (loadOf sup) overhead flags sm pm) ∙ ap (λ (x : Stepped). x .refusal) (sym of-loaded)
 
     pub step-done : (n : ℕ) (after : List ℕ) → o .refusal ≡ 0 → n ≡ reportWord (o .report) → after ≡ bytesOf (o .supervisor) → StepCall sup overhead flags sm pm n after
     unfolding callAnswer callSup
     step-done n after z w v =
         let y : callRefusal sup overhead flags sm pm ≡ 0 = number-is ∙ z in
-        let t = of-loaded ∙ step-taken (loadOf sup) overhead flags sm pm (sym (call-number (loaded-sound sup l true e b)) ∙ y) in
+        let t = of-loaded ∙ step-taken (loadOf sup) overhead flags sm pm (sym (call-number b) ∙ y) in
         record {
           answers = rw y (w ∙ ap (λ (x : Stepped). reportWord (x .report)) t);
           holds = rw y (v ∙ ap (λ (x : Stepped). bytesOf (x .supervisor)) t);
@@ -149,25 +145,25 @@ module _ (sup out : List ℕ) where
   unfolding markRefusal
   mark-by e = rw e
 
-  pub mark-bad : (l : Loaded) → l ≡ loadedOf sup → l .sound ≡ false → MarkCall sup out 17 sup out
+  pub mark-bad : sound sup ≡ false → MarkCall sup out 17 sup out
   unfolding markSup markRecord
-  mark-bad l e b =
-      let z = mark-17 (loaded-sound sup l false e b) in
+  mark-bad b =
+      let z = mark-17 b in
       record { answers = sym z; holds = rw z; fills = rw z }
 
-  module _ (l : Loaded) (m : Marked) (e : l ≡ loadedOf sup) (b : l .sound ≡ true) (h : m ≡ markOf (l .supervisor)) where
+  module _ (s : Supervisor) (m : Marked) (e : s ≡ loadOf sup) (b : sound sup ≡ true) (h : m ≡ markOf s) where
     marks-loaded : m ≡ markOf (loadOf sup)
-    marks-loaded = h ∙ ap (λ (x : Loaded). markOf (x .supervisor)) e
+    marks-loaded = h ∙ ap (λ (x : Supervisor). markOf x) e
 
     marked-is : markRefusal sup ≡ m .refusal
-    marked-is = mark-by (loaded-sound sup l true e b) ∙ sym (mark-number (loadOf sup)) ∙ ap (λ (x : Marked). x .refusal) (sym marks-loaded)
+    marked-is = mark-by b ∙ sym (mark-number (loadOf sup)) ∙ ap (λ (x : Marked). x .refusal) (sym marks-loaded)
 
     pub mark-done : (after bytes filled : List ℕ) → m .refusal ≡ 0 → after ≡ bytesOf (m .supervisor) → bytes ≡ flat (m .figures)
         → filled ≡ poured out bytes → MarkCall sup out 0 after filled
     unfolding markSup markRecord
     mark-done after bytes filled z v w f =
         let y : markRefusal sup ≡ 0 = marked-is ∙ z in
-        let t = marks-loaded ∙ mark-open (loadOf sup) (low (ltb (loadOf sup .seconds) 4294967295) (sym (mark-by (loaded-sound sup l true e b)) ∙ y)) in
+        let t = marks-loaded ∙ mark-open (loadOf sup) (low (ltb (loadOf sup .seconds) 4294967295) (sym (mark-by b) ∙ y)) in
         record {
           answers = sym y;
           holds = rw y (v ∙ ap (λ (x : Marked). bytesOf (x .supervisor)) t);
@@ -188,22 +184,22 @@ again true l k x y = refl
 again false l k x y = refl
 
 module _ (sup : List ℕ) (layer : ℕ) (out : List ℕ) where
-  pub trace-bad : (l : Loaded) → l ≡ loadedOf sup → l .sound ≡ false → TraceCall sup layer out 17 out
+  pub trace-bad : sound sup ≡ false → TraceCall sup layer out 17 out
   unfolding traceRefused traceOut
-  trace-bad l e b =
-      let z = loaded-sound sup l false e b in
+  trace-bad b =
+      let z = b in
       record { answers = rw z; holds = rw z }
 
-  module _ (l : Loaded) (t : Traced) (twelve n : ℕ) (e : l ≡ loadedOf sup) (b : l .sound ≡ true) (h : t ≡ tracedOf (l .supervisor) layer)
+  module _ (s : Supervisor) (t : Traced) (twelve n : ℕ) (e : s ≡ loadOf sup) (b : sound sup ≡ true) (h : t ≡ tracedOf s layer)
       (i : twelve ≡ cond (eqb (length out) 64) (t .refusal) 12) (j : n ≡ cond (leb layer 1) twelve 11) where
     traces-loaded : t ≡ tracedOf (loadOf sup) layer
-    traces-loaded = h ∙ ap (λ (x : Loaded). tracedOf (x .supervisor) layer) e
+    traces-loaded = h ∙ ap (λ (x : Supervisor). tracedOf x layer) e
 
     traced-is : n ≡ traceRefused sup layer out
     unfolding traceRefused traceRefusal
     traced-is =
         let k : t .refusal ≡ traceRefusal (loadOf sup) layer = ap (λ (x : Traced). x .refusal) traces-loaded ∙ trace-number (loadOf sup) layer in
-        j ∙ rw (i, k, loaded-sound sup l true e b) (again (leb layer 1) (eqb (length out) 64) (cond (layerAt (loadOf sup) layer .known) 0 13) 11 12)
+        j ∙ rw (i, k, b) (again (leb layer 1) (eqb (length out) 64) (cond (layerAt (loadOf sup) layer .known) 0 13) 11 12)
 
     checks-pass : n ≡ 0 → All (traceChecks sup layer out)
     unfolding traceRefused

@@ -15,17 +15,12 @@ use Rattle.supervisor.specs.Settings.{settingsChecks, optionsOf}
 use Rattle.supervisor.specs.Supervisor.{freshOf, stepChecks, standsAfter, frameOf, nextSecond, layerAt}
 use Rattle.supervisor.specs.declared.settings.Request.{Request}
 use Rattle.supervisor.specs.declared.Supervisor.{Supervisor}
-use Rattle.card.specs.declared.Loaded.{Loaded}
 use Rattle.card.specs.Image.{sound, loadOf, bytesOf}
 use Rattle.card.specs.Report.{reportWord}
 
 -- by a refusal's number: what is made where it is 0, what is kept where it is not
 abbrev pub unless : {A : Type 0} → ℕ → A → A → A
 unless refusal made kept = cond (eqb refusal 0) made kept
-
--- a supervisor read from bytes, and whether they are sound
-abbrev pub loadedOf : List ℕ → Loaded
-loadedOf sup = record { sound = sound sup; supervisor = loadOf sup }
 
 -- what C provisions: its twelve arguments but the supervisor
 pub record Provision : Type 0 where

@@ -19,8 +19,9 @@ use supervisor::Settings;
 use supervisor::Supervisor;
 ghost use mathlib.Core.Path.{_≡_};
 ghost use Prim.Native.Nat.{_≤_};
+ghost use lib.ListN.{length};
 ghost use Rattle.codec.specs.Pieces.{lays};
-ghost use Rattle.card.specs.Image.{settingsWords, alignWords, sectionWords, pathWords, secondWords, headsWords, numbersOf, settingsOf, alignOf, layerOf, sectionOf, pathOf, secondOf, numbersIn, ranged, sectionIn, pathIn, settingsIn, supervisorOf, numberPieces, TracesLaid, NamesLaid, Stored};
+ghost use Rattle.card.specs.Image.{settingsWords, alignWords, sectionWords, pathWords, secondWords, headsWords, numbersOf, settingsOf, alignOf, layerOf, sectionOf, pathOf, secondOf, numbersIn, ranged, sectionIn, pathIn, settingsIn, supervisorOf, loadOf, sound, numberPieces, bytesOf, TracesLaid, NamesLaid};
 
 // The numbers, in segments of twelve words.
 pub struct Numbers {
@@ -300,7 +301,7 @@ fn numbers_of(s: Supervisor) -> Numbers
 }
 
 // The numbers that stand in lent bytes.
-pub fn numbers_in(b: &[u8]) -> Numbers
+fn numbers_in(b: &[u8]) -> Numbers
     ensures { λ r. ⌜ r ≡ numbersIn (now (b .entry)) ⌝ }
 {
     let settings = codec::words_in(b, 0);
@@ -320,7 +321,7 @@ pub fn numbers_in(b: &[u8]) -> Numbers
 }
 
 // Whether each number lies in its range.
-pub fn is_ranged(n: Numbers) -> bool
+fn is_ranged(n: Numbers) -> bool
     ensures { λ r. ⌜ r ≡ ranged n ⌝ }
 {
     let settings = n.settings;
@@ -396,8 +397,19 @@ fn settings_in(b: &[u8], w: [u32; 12]) -> Settings
     settings_of(w, snames, pnames)
 }
 
+// Whether lent bytes are a supervisor's: their length, then their numbers.
+pub fn is_sound(b: &[u8]) -> bool
+    ensures { λ r. ⌜ r ≡ sound (now (b .entry)) ⌝ }
+{
+    if b.len() == 736 {
+        let n = numbers_in(b);
+        return is_ranged(n);
+    }
+    false
+}
+
 // The supervisor of numbers and of the arrays in lent bytes.
-pub fn supervisor_of(b: &[u8], n: Numbers) -> Supervisor
+fn supervisor_of(b: &[u8], n: Numbers) -> Supervisor
     ensures { λ r. ⌜ r ≡ supervisorOf (now (b .entry)) n ⌝ }
 {
     let w = n.settings;
@@ -421,6 +433,16 @@ pub fn supervisor_of(b: &[u8], n: Numbers) -> Supervisor
         second: second,
         seconds: w[9],
     }
+}
+
+// The supervisor in 736 lent bytes. They are lent on under that length, so that what is read of them need not be tested again.
+pub fn load(b: &[u8]) -> Supervisor
+    requires { ⌜ length (now b) ≡ 736 ⌝ }
+    ensures { λ r. ⌜ r ≡ loadOf (now (b .entry)) ⌝ }
+{
+    let all = &b[0..736];
+    let n = numbers_in(all);
+    supervisor_of(all, n)
 }
 
 fn store_numbers(b: &mut [u8], n: Numbers)
@@ -462,16 +484,18 @@ fn store_names(b: &mut [u8], s: Settings)
     codec::lay_names(b, 704, pnames);
 }
 
-// The supervisor's pieces laid over the bytes: where they are 736, they become its image.
+// The supervisor's pieces laid over 736 bytes, lent on under that length as in `load`: they become its image.
 pub fn store(b: &mut [u8], s: Supervisor)
-    ensures { λ _. ⌜ Stored (now (b .entry)) s (now (b .exit)) ⌝ }
+    requires { ⌜ length (now b) ≡ 736 ⌝ }
+    ensures { λ _. ⌜ now (b .exit) ≡ bytesOf s ⌝ }
 {
+    let all = &mut b[0..736];
     let n = numbers_of(s);
     let section = s.layers.section.layer;
     let path = s.layers.path.layer;
     let settings = s.settings;
-    store_numbers(b, n);
-    store_traces(b, 288, section);
-    store_traces(b, 480, path);
-    store_names(b, settings);
+    store_numbers(all, n);
+    store_traces(all, 288, section);
+    store_traces(all, 480, path);
+    store_names(all, settings);
 }

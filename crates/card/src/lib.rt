@@ -4,33 +4,13 @@ mod report;
 
 use answer::checked;
 use supervisor::Request;
-use supervisor::Supervisor;
 ghost use mathlib.Core.Path.{_≡_};
-ghost use Rattle.card.specs.Calls.{loadedOf, provisionBy, FreshCall, StepCall, MarkCall, TraceCall};
-
-// A supervisor read from lent bytes; `sound` is false where refusal 17 is due.
-pub struct Loaded {
-    pub sound: bool,
-    pub supervisor: Supervisor,
-}
+ghost use Rattle.card.specs.Calls.{provisionBy, FreshCall, StepCall, MarkCall, TraceCall};
 
 fn wide(x: u8) -> u64
     ensures { λ r. ⌜ r ≡ x ⌝ }
 {
     x as u64
-}
-
-// The supervisor in lent bytes, and whether its length and its numbers are in order.
-fn load(b: &[u8]) -> Loaded
-    ensures { λ r. ⌜ r ≡ loadedOf (now (b .entry)) ⌝ }
-{
-    let n = image::numbers_in(b);
-    let ranged = image::is_ranged(n);
-    let s = image::supervisor_of(b, n);
-    Loaded {
-        sound: (b.len() == 736) & ranged,
-        supervisor: s,
-    }
 }
 
 // A fresh supervisor under a provisioning.
@@ -80,9 +60,8 @@ pub extern "C" fn otn_fresh(
 pub extern "C" fn otn_step(sup: &mut [u8], overhead: &[u8], flags: u8, sm: u8, pm: u8) -> u64
     ensures { λ r. ⌜ StepCall (now (sup .entry)) (now (overhead .entry)) flags sm pm r (now (sup .exit)) ⌝ }
 {
-    let l = load(sup);
-    if l.sound {
-        let s = l.supervisor;
+    if image::is_sound(sup) {
+        let s = image::load(sup);
         let o = supervisor::step(s, overhead, flags, sm, pm);
         if o.refusal == 0 {
             let next = o.supervisor;
@@ -100,9 +79,8 @@ pub extern "C" fn otn_step(sup: &mut [u8], overhead: &[u8], flags: u8, sm: u8, p
 pub extern "C" fn otn_mark(sup: &mut [u8], out: &mut [u8]) -> u64
     ensures { λ r. ⌜ MarkCall (now (sup .entry)) (now (out .entry)) r (now (sup .exit)) (now (out .exit)) ⌝ }
 {
-    let l = load(sup);
-    if l.sound {
-        let s = l.supervisor;
+    if image::is_sound(sup) {
+        let s = image::load(sup);
         let m = supervisor::mark(s);
         if m.refusal == 0 {
             let next = m.supervisor;
@@ -122,9 +100,8 @@ pub extern "C" fn otn_mark(sup: &mut [u8], out: &mut [u8]) -> u64
 pub extern "C" fn otn_trace(sup: &[u8], layer: u8, out: &mut [u8]) -> u64
     ensures { λ r. ⌜ TraceCall (now (sup .entry)) layer (now (out .entry)) r (now (out .exit)) ⌝ }
 {
-    let l = load(sup);
-    if l.sound {
-        let s = l.supervisor;
+    if image::is_sound(sup) {
+        let s = image::load(sup);
         let t = supervisor::trace_of(s, layer);
         let twelve = checked(12, out.len() == 64, t.refusal);
         let refusal = checked(11, layer <= 1, twelve);

@@ -1,3 +1,4 @@
 pub mod Layer
+pub mod Steps
 pub mod Signal
 pub mod Traced

@@ -2,7 +2,9 @@
 use filter::Filter;
 use filter::Stat;
 ghost use mathlib.Core.Path.{_≡_};
-ghost use Rattle.layer.specs.Layer.{sameTrace, closedOf, traceOf, layerOf, comparedOf, timOf};
+ghost use mathlib.Core.Bool.{cond};
+ghost use Rattle.layer.specs.Layer.{sameTrace, layerOf, comparedOf, timOf};
+ghost use Rattle.layer.specs.Steps.{putIn, equalAfter};
 ghost use Rattle.layer.specs.Signal.{signalOf, standsFor, raisedOf};
 
 // `accepted` is the accepted trace where `known`; `gathered` the cycle being gathered where `gathering`; `previous` the last whole
@@ -53,71 +55,79 @@ fn same_trace(a: &[u8; 64], b: &[u8; 64]) -> bool
     same
 }
 
-// The layer at the last frame of a cycle that was gathered whole.
-fn closed(l: Layer) -> Layer
-    ensures { λ r. ⌜ r ≡ closedOf l ⌝ }
+// A byte into the cycle, where it is taken.
+fn put(g: &mut [u8; 64], takes: bool, number: u8, tti: u8)
+    ensures { λ _. ⌜ now (g .exit) ≡ putIn (now (g .entry)) takes number tti ⌝ }
 {
-    let g = l.gathered;
-    let p = l.previous;
-    let mut n = l;
-    n.gathering = false;
-    n.previous = g;
-    if same_trace(&g, &p) {
-        let equal = filter::up(l.equal, 3);
-        n.equal = equal;
-        if equal == 3 {
-            n.accepted = g;
-            n.known = true;
-            return n;
-        }
-        return n;
-    }
-    n.equal = 1;
-    n
-}
-
-// The trace after one more frame: forgotten, dropped in OOM, or one byte further.
-fn trace_step(l: Layer, forget: bool, inmulti: bool, number: u8, tti: u8) -> Layer
-    ensures { λ r. ⌜ r ≡ traceOf l forget inmulti number tti ⌝ }
-{
-    let mut n = l;
-    if forget {
-        n.known = false;
-        n.gathering = false;
-        n.equal = 0;
-        return n;
-    }
-    if inmulti {
+    if takes {
         let at = (number % 64) as usize;
-        if at == 0 {
-            n.gathered[0] = tti;
-            n.gathering = true;
-            return n;
-        }
-        if l.gathering {
-            n.gathered[at] = tti;
-            if at == 63 {
-                return closed(n);
-            }
-            return n;
-        }
-        return l;
+        g[at] = tti;
     }
-    n.gathering = false;
-    n.equal = 0;
-    n
 }
 
-// What every layer does in a frame: its trace and its BDI.
+// One cycle over another, where it is taken.
+fn replace(a: &mut [u8; 64], takes: bool, b: [u8; 64])
+    ensures { λ _. ⌜ now (a .exit) ≡ cond takes b (now (a .entry)) ⌝ }
+{
+    if takes {
+        *a = b;
+    }
+}
+
+// How many equal cycles in a row have ended.
+fn equal_after(closes: bool, gathered: &[u8; 64], previous: &[u8; 64], equal: u32) -> u32
+    ensures { λ r. ⌜ r ≡ equalAfter closes (now (gathered .entry)) (now (previous .entry)) equal ⌝ }
+{
+    if closes {
+        if same_trace(gathered, previous) {
+            return filter::up(equal, 3);
+        }
+        return 1;
+    }
+    equal
+}
+
+// The run of equal cycles, where it goes on.
+fn equal_kept(goes: bool, equal: u32) -> u32
+    ensures { λ r. ⌜ r ≡ cond goes equal 0 ⌝ }
+{
+    if goes {
+        return equal;
+    }
+    0
+}
+
+// What every layer does in a frame: its trace and its BDI. The trace is forgotten, dropped in OOM, or one byte further, and a cycle
+// that was gathered whole closes at its last byte. The arrays are moved once, and changed in place.
 pub fn layer_step(l: Layer, forget: bool, inmulti: bool, number: u8, tti: u8, bdi: bool) -> Layer
     ensures { λ r. ⌜ r ≡ layerOf l forget inmulti number tti bdi ⌝ }
 {
-    let t = trace_step(l, forget, inmulti, number, tti);
     let b = l.bdi;
+    let deg = l.deg;
+    let mut accepted = l.accepted;
+    let mut gathered = l.gathered;
+    let mut previous = l.previous;
     let held = filter::filter_step(b, 5, forget, bdi);
-    let mut n = t;
-    n.bdi = held;
-    n
+    let place = number % 64;
+    let goes = !forget & inmulti;
+    let takes = goes & ((place == 0) | l.gathering);
+    let closes = takes & (place == 63);
+    put(&mut gathered, takes, number, tti);
+    let equal = equal_after(closes, &gathered, &previous, l.equal);
+    let accepts = closes & (equal == 3);
+    replace(&mut previous, closes, gathered);
+    replace(&mut accepted, accepts, gathered);
+    let kept = equal_kept(goes, equal);
+    Layer {
+        accepted: accepted,
+        gathered: gathered,
+        previous: previous,
+        known: !forget & (accepts | l.known),
+        gathering: takes & !closes,
+        equal: kept,
+        bdi: held,
+        deg: deg,
+    }
 }
 
 // Whether the SAPI and the DAPI of the accepted trace are the expected ones: all bytes are read, in one order.
