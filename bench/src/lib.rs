@@ -4,6 +4,9 @@
 //! frame, and each state is found by looking back over the record: the latest row of five alike since the last forgetting, the
 //! three cycles that end here, the OOF frames with no long IF stretch between them. A look-back stops after a window of frames and
 //! takes up the answer recorded there, which is the same question put to the same history.
+//!
+//! Beside it stand two tools for a person at a bench, which know no rule of the supervisor: `scenario` makes traces, `timeline` draws
+//! listings.
 
 pub mod card;
 pub mod cases;
@@ -12,11 +15,14 @@ pub mod frame;
 pub mod generate;
 pub mod history;
 pub mod listing;
+pub mod program;
 pub mod provisioning;
 pub mod random;
 pub mod reader;
 pub mod report;
+pub mod scenario;
 pub mod supervisor;
+pub mod timeline;
 
 #[cfg(test)]
 mod tests;
