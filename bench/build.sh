@@ -1,7 +1,8 @@
 # Sourced by compare, soak, speed and mutants: builds what they run into bench/target.
 #
 #   LEDGER        the program under test; without it only the plain C reader is run
-#   CARD_LIB      its static library libcard.a; without it only the stand-in over plain.c is run
+#   EXPLAIN       the program that explains a trace; without it no explanation is compared
+#   CARD_LIB      the static library libcard.a; without it only the stand-in over plain.c is run
 #   CARD_INCLUDE  where its otn.h stands; by default include/ beside bench/
 #   CARD_LINK     what else the linker needs for it
 #
@@ -10,6 +11,7 @@
 set -euo pipefail
 bench=$(cd "$(dirname "${BASH_SOURCE[0]}")" && pwd)
 ledger=${LEDGER:+$(realpath "$LEDGER")}
+explain=${EXPLAIN:+$(realpath "$EXPLAIN")}
 card_lib=${CARD_LIB:+$(realpath "$CARD_LIB")}
 card_include=$(realpath -m "${CARD_INCLUDE:-$bench/../include}")
 out=$bench/target/c

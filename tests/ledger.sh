@@ -1,32 +1,8 @@
 #!/usr/bin/env bash
 # Runs the program ledger on traces and holds what it writes to document 01. Status 0 where all is as it should be.
-set -uo pipefail
-cd "$(dirname "$0")/.."
-work=$(mktemp -d)
-trap 'rm -rf "$work"' EXIT
+. "$(dirname "$0")/common.sh"
 [ -x target/bin/ledger ] || rt check ledger || exit 1
-cc -O2 -Wall -Wextra -o "$work/trace" tests/trace.c || exit 1
-ledger=(bin/ledger)
-passed=0
-failed=0
-
-said() { # what is to be, what is
-    if [ "$1" = "$2" ]; then
-        passed=$((passed + 1))
-    else
-        failed=$((failed + 1))
-        printf 'tests/ledger.sh: %s\n  expected: %s\n  found:    %s\n' "$name" "$1" "$2"
-    fi
-}
-
-# gives TEXT WORDS..: the listing of the trace of these words, whole
-gives() {
-    local text=$1
-    shift
-    name="$*"
-    "$work/trace" "$@" > "$work/in" || exit 1
-    said "$text" "$(timeout 120 "${ledger[@]}" < "$work/in")"
-}
+program=bin/ledger
 
 # ends TEXT WORDS..: its last two lines
 ends() {
@@ -34,10 +10,8 @@ ends() {
     shift
     name="$*"
     "$work/trace" "$@" > "$work/in" || exit 1
-    said "$text" "$(timeout 120 "${ledger[@]}" < "$work/in" | tail -n 2)"
+    said "$text" "$(timeout 120 "$program" < "$work/in" | tail -n 2)"
 }
-
-line() { printf '%s\n' "$@"; }
 
 # the worked example and nothing at all
 gives "$(line 'S 1 2 0 2 0 0 0 0 0 0 0 0 0 0 1 0 0 0 1 0' 'E 1 2')" P 'Z:flags=1*2' M
@@ -117,14 +91,14 @@ gives "$text" "${heads[@]}"
 # the same from a pipe, in pieces of 7 bytes and of 4,096
 "$work/trace" "${heads[@]}" > "$work/in"
 name='pieces of 7 bytes'
-said "$text" "$(dd bs=7 if="$work/in" 2> /dev/null | timeout 120 "${ledger[@]}")"
+said "$text" "$(dd bs=7 if="$work/in" 2> /dev/null | timeout 120 "$program")"
 name='pieces of 4,096 bytes'
-said "$text" "$(dd bs=4096 if="$work/in" 2> /dev/null | timeout 120 "${ledger[@]}")"
+said "$text" "$(dd bs=4096 if="$work/in" 2> /dev/null | timeout 120 "$program")"
 
 # a reader at a pipe sees a second's line before the input ends
 name='a line before the end of the input'
 "$work/trace" P 'Z:flags=1*2' M > "$work/in"
-coproc timeout 60 "${ledger[@]}"
+coproc timeout 60 "$program"
 exec {back}<&"${COPROC[0]}" {to}>&"${COPROC[1]}"
 eval "exec ${COPROC[1]}>&-"
 cat "$work/in" >&"$to"
@@ -139,16 +113,15 @@ said 'E 1 2' "$found"
 # it ends where a write fails, and on an input without end
 name='a full device'
 "$work/trace" P 'M*5000' > "$work/in"
-timeout 60 "${ledger[@]}" < "$work/in" > /dev/full
+timeout 60 "$program" < "$work/in" > /dev/full
 said 0 $?
 name='zeros without end'
-said "$(line 'R 15 0' 'E 0 0')" "$(timeout 60 "${ledger[@]}" < /dev/zero)"
+said "$(line 'R 15 0' 'E 0 0')" "$(timeout 60 "$program" < /dev/zero)"
 
 # the examples
 for trace in examples/*.trace; do
     name=$trace
-    said "$(cat "${trace%.trace}.listing")" "$(timeout 60 "${ledger[@]}" < "$trace")"
+    said "$(cat "${trace%.trace}.listing")" "$(timeout 60 "$program" < "$trace")"
 done
 
-echo "tests/ledger.sh: $passed passed, $failed failed"
-[ "$failed" -eq 0 ]
+counted

@@ -11,6 +11,7 @@
 pub mod card;
 pub mod cases;
 pub mod cover;
+pub mod explain;
 pub mod frame;
 pub mod generate;
 pub mod history;

@@ -50,6 +50,12 @@ pub fn provisioning(body: &[u8]) -> Result<Provisioning, u8> {
 
 /// The listing of a whole trace.
 pub fn list(trace: &[u8]) -> String {
+    told(trace, |_, _| String::new())
+}
+
+/// The listing of a whole trace, and among its lines what `tell` says after each frame accepted: of the supervisor then, and of the
+/// frame's number in the trace.
+pub fn told(trace: &[u8], mut tell: impl FnMut(&Supervisor, u64) -> String) -> String {
     let mut out = String::new();
     let mut supervisor: Option<Supervisor> = None;
     let (mut offset, mut marks, mut frames) = (0usize, 0u64, 0u64);
@@ -77,6 +83,7 @@ pub fn list(trace: &[u8]) -> String {
                     (Record::Frame { overhead, flags, sm, pm }, Some(s)) => match s.step(overhead, flags, sm, pm) {
                         Ok(_) => {
                             frames += 1;
+                            out.push_str(&tell(s, frames));
                             None
                         }
                         Err(number) => Some(number),

@@ -4,12 +4,13 @@
 //!
 //! --from I --traces 1 repeats trace I alone; --write keeps each trace and its listing.
 //!
-//! LEDGERS: programs that read a trace and print its listing, by path, with colons between. CALLS: programs made of calls.c and
-//! a card's library, likewise. bench/compare builds them and sets both. LEDGER is taken where LEDGERS is not
-//! set.
+//! LEDGERS: programs that read a trace and print its listing, by path, with colons between. EXPLAINS: programs that print its
+//! explanation, and CALLS: programs made of calls.c and a card's library, likewise. bench/compare builds them and sets all three.
+//! LEDGER is taken where LEDGERS is not set.
 
 use second::card::Card;
 use second::cover::Cover;
+use second::explain::explain;
 use second::generate::{self, Generated, Item};
 use second::provisioning::Provisioning;
 use second::random::Random;
@@ -58,7 +59,8 @@ impl Program {
     }
 }
 
-fn listing(path: &str, trace: &[u8]) -> String {
+/// What a program prints to a trace.
+fn printed(path: &str, trace: &[u8]) -> String {
     let mut program = Program::start(path);
     program.feed.take().unwrap().send(trace.to_vec()).unwrap();
     let mut out = Vec::new();
@@ -268,11 +270,13 @@ fn session(rng: &mut Random, g: &Generated, cover: &mut Cover) -> Session {
     session
 }
 
-/// What a worker is given: whose trace it is, the trace and its listing, the orders and their answers.
+/// What a worker is given: whose trace it is, the trace, its listing and explanation (empty where it is not compared), the orders and
+/// their answers.
 struct Task {
     whose: String,
     trace: Vec<u8>,
     listing: String,
+    explanation: String,
     session: Option<Session>,
 }
 
@@ -282,6 +286,9 @@ struct Worker {
     thread: std::thread::JoinHandle<()>,
 }
 
+/// Of so many generated traces one is explained too, the first after trace 0. All of them, at what a listing costs under an emulator,
+/// would take half the time again.
+const EXPLAINED: u64 = 5;
 /// After so many differences no more is compared.
 const MANY: u64 = 10;
 static DIFFERENCES: AtomicU64 = AtomicU64::new(0);
@@ -295,17 +302,18 @@ fn differs(what: String) {
     println!("{what}");
 }
 
-/// Prints every listing of a program and compares it.
-fn ledger_worker(path: String) -> Worker {
+/// Compares what a program prints to each trace with the text that the task has for it.
+fn text_worker(path: String, text: fn(&Task) -> &str) -> Worker {
     let (tasks, waiting) = std::sync::mpsc::sync_channel::<std::sync::Arc<Task>>(8);
     let thread = std::thread::spawn(move || {
         for task in waiting {
-            if task.listing.is_empty() || enough() {
+            let expected = text(&task);
+            if expected.is_empty() || enough() {
                 continue;
             }
-            let got = listing(&path, &task.trace);
-            if got != task.listing {
-                differs(format!("{}: {path}: {}", task.whose, parting(&got, &task.listing)));
+            let got = printed(&path, &task.trace);
+            if got != expected {
+                differs(format!("{}: {path}: {}", task.whose, parting(&got, expected)));
             }
         }
     });
@@ -333,12 +341,31 @@ fn calls_worker(path: String) -> Worker {
     Worker { tasks, thread }
 }
 
+/// The programs under test, by path.
+struct Programs {
+    ledgers: Vec<String>,
+    explains: Vec<String>,
+    calls: Vec<String>,
+}
+
+impl Programs {
+    /// The explanation, where there is a program to hold it against.
+    fn explanation(&self, trace: &[u8]) -> String {
+        if self.explains.is_empty() {
+            return String::new();
+        }
+        explain(trace)
+    }
+}
+
 struct Workers(Vec<Worker>);
 
 impl Workers {
-    fn start(ledgers: &[String], calls: &[String]) -> Workers {
-        let ledgers = ledgers.iter().cloned().map(ledger_worker);
-        Workers(ledgers.chain(calls.iter().cloned().map(calls_worker)).collect())
+    fn start(programs: &Programs) -> Workers {
+        let ledgers = programs.ledgers.iter().map(|path| text_worker(path.clone(), |task| &task.listing));
+        let explains = programs.explains.iter().map(|path| text_worker(path.clone(), |task| &task.explanation));
+        let calls = programs.calls.iter().map(|path| calls_worker(path.clone()));
+        Workers(ledgers.chain(explains).chain(calls).collect())
     }
     fn give(&self, task: Task) {
         let task = std::sync::Arc::new(task);
@@ -382,7 +409,7 @@ fn paths(variable: &str) -> Vec<String> {
     value.split(':').filter(|p| !p.is_empty()).map(String::from).collect()
 }
 
-/// Where two listings part.
+/// Where two texts part.
 fn parting(got: &str, expected: &str) -> String {
     match got.lines().zip(expected.lines()).enumerate().find(|(_, (a, b))| a != b) {
         Some((i, (a, b))) => format!("line {}: printed {a:?}, expected {b:?}", i + 1),
@@ -391,7 +418,8 @@ fn parting(got: &str, expected: &str) -> String {
 }
 
 /// The directed cases: the second program, each program and each card's calls against the listing and reports in the text.
-fn directed(dir: &str, workers: Workers, write: &Option<String>) {
+fn directed(dir: &str, programs: &Programs, write: &Option<String>) {
+    let workers = Workers::start(programs);
     let mut names: Vec<_> = std::fs::read_dir(dir).expect("the cases are there").map(|e| e.unwrap().path()).collect();
     names.retain(|p| p.extension().is_some_and(|e| e == "txt"));
     names.sort();
@@ -422,7 +450,8 @@ fn directed(dir: &str, workers: Workers, write: &Option<String>) {
         // The calls meet a full second in trace 0.
         let g = Generated { provisioning: case.provisioning, items: case.items, bytes: Vec::new(), about: String::new() };
         let session = (g.items.len() < 100_000).then(|| session(&mut Random::new(count), &g, &mut Cover::default()));
-        workers.give(Task { whose, trace: case.bytes, listing: case.listing, session });
+        let explanation = programs.explanation(&case.bytes);
+        workers.give(Task { whose, trace: case.bytes, listing: case.listing, explanation, session });
     }
     workers.end();
     println!("{count} directed cases, {} differences", DIFFERENCES.load(Ordering::Relaxed));
@@ -449,17 +478,18 @@ fn main() {
             }
         }
     }
-    let (mut ledgers, calls) = (paths("LEDGERS"), paths("CALLS"));
-    if ledgers.is_empty() {
-        ledgers = paths("LEDGER");
+    let mut programs = Programs { ledgers: paths("LEDGERS"), explains: paths("EXPLAINS"), calls: paths("CALLS") };
+    if programs.ledgers.is_empty() {
+        programs.ledgers = paths("LEDGER");
     }
     let began = Instant::now();
     if let Some(dir) = &cases {
-        directed(dir, Workers::start(&ledgers, &calls), &write);
+        directed(dir, &programs, &write);
     }
     println!("seed {seed}, {traces} traces");
     let mut cover = Cover::default();
-    let workers = Workers::start(&ledgers, &calls);
+    let mut explanations = 0u64;
+    let workers = Workers::start(&programs);
     for index in from..from + traces {
         if enough() {
             println!("{MANY} differences; no more is compared");
@@ -467,8 +497,10 @@ fn main() {
         }
         let g = generate::trace(seed, index);
         let whose = format!("seed {seed} trace {index} ({})", g.about);
-        // The full second's listing is a directed case.
+        // The full second's texts are a directed case.
         let listing = if index == 0 { String::new() } else { reader::list(&g.bytes) };
+        let explanation = if index % EXPLAINED == 1 { programs.explanation(&g.bytes) } else { String::new() };
+        explanations += u64::from(!explanation.is_empty());
         if let Some(number) = listing.lines().find_map(|l| l.strip_prefix("R ")?.split(' ').next()?.parse::<usize>().ok()) {
             cover.refusals[number] += 1;
         }
@@ -481,7 +513,7 @@ fn main() {
         for broken in session.broken.iter().take(1) {
             differs(format!("{whose}: second: demand 3: {broken}"));
         }
-        workers.give(Task { whose, trace: g.bytes, listing, session: Some(session) });
+        workers.give(Task { whose, trace: g.bytes, listing, explanation, session: Some(session) });
     }
     workers.end();
     let failures = DIFFERENCES.load(Ordering::Relaxed);
@@ -491,11 +523,13 @@ fn main() {
         println!("{line}");
     }
     println!(
-        "compared: {} listings each of {}, {} calls each of {}; {:.1} s",
+        "compared: {} listings each of {}, {} explanations each of {}, {} calls each of {}; {:.1} s",
         traces,
-        ledgers.len(),
+        programs.ledgers.len(),
+        explanations,
+        programs.explains.len(),
         cover.refusals.iter().sum::<u64>(),
-        calls.len(),
+        programs.calls.len(),
         began.elapsed().as_secs_f64()
     );
     if failures > 0 || !wrong.is_empty() {

@@ -3,3 +3,4 @@ pub mod Checks
 pub mod Copies
 pub mod Every
 pub mod Unique
+pub mod Overs

@@ -11,7 +11,8 @@ use lib.Seq.{take-at, take-all}
 use borrow.Author.Tests.{eq-eqb, eqb-true}
 use Rattle.answer.proofs.Cond.{and-left, and-right}
 use Rattle.codec.specs.Words.{flat, wordsOf, wordsIn, bytesIn}
-use Rattle.codec.specs.Over.{over, laid}
+use Rattle.answer.specs.Over.{over}
+use Rattle.codec.specs.Over.{laid}
 use Rattle.codec.specs.Ranges.{inside}
 use Rattle.codec.specs.Pieces.{Piece, piece, joined, Sized, widths, offset, lays}
 use Rattle.codec.proofs.Words.{length-flat, words-room, bytes-room}

@@ -5,9 +5,11 @@ use Prim.Native.Nat.{ℕ, zero, suc, _+_, _≤_}
 use native.Mathlib.Omega.{arith}
 use lib.ListN.{length, drop, length-append}
 use lib.Seq.{drop-at, drop-drop}
-use Rattle.codec.specs.Over.{over, laid}
+use Rattle.answer.specs.Over.{over}
+use Rattle.codec.specs.Over.{laid}
 use Rattle.codec.specs.Pieces.{Piece, joined, Sized, widths, offset, lays}
-use Rattle.codec.proofs.Overs.{over-nil, over-over, over-length, laid-room}
+use Rattle.answer.proofs.Overs.{over-nil, over-over, over-length}
+use Rattle.codec.proofs.Overs.{laid-room}
 
 pub length-joined : (ps : List Piece) → Sized ps → length (joined ps) ≡ widths ps
 length-joined [] z = refl

@@ -11,8 +11,8 @@ use lib.ListN.{length, getD, take, drop, replicate, length-drop}
 use lib.Seq.{take-suc, getD-drop, length-take-le}
 use borrow.Author.Tests.{le-leb, lt-leb}
 use Rattle.codec.specs.Words.{le4, flat, wordAt, wordsOf, wordsIn, bytesIn}
-use Rattle.codec.specs.Over.{over}
-use Rattle.codec.proofs.Overs.{over-over}
+use Rattle.answer.specs.Over.{over}
+use Rattle.answer.proofs.Overs.{over-over}
 
 pub flat-append : (x y : List ℕ) → flat (x ++ y) ≡ flat x ++ flat y
 unfolding flat

@@ -1,15 +1,12 @@
 -- Bytes written over others. Assumes nothing.
 use mathlib.Core.Bool.{Bool, cond}
-use mathlib.Core.List.{List, _++_}
+use mathlib.Core.List.{List}
 use Prim.Native.Nat.{ℕ, _+_}
 use lib.Dec.{leb, ltb}
-use lib.ListN.{length, take, drop}
+use lib.ListN.{length, take}
+use Rattle.answer.specs.Over.{over}
 
--- d with v written over it from a place on
-unfoldable pub over : List ℕ → ℕ → List ℕ → List ℕ
-over d at v = take at d ++ v ++ drop (at + length v) d
-
--- the same where v lies within d, and d where it does not
+-- d with v written over it from a place on where v lies within d, and d where it does not
 unfoldable pub laid : List ℕ → ℕ → List ℕ → List ℕ
 laid d at v = cond (leb (at + length v) (length d)) (over d at v) d
 

@@ -4,7 +4,8 @@ ghost use mathlib.Core.Path.{_≡_};
 ghost use Prim.Native.Nat.{_+_, _*_, _≤_, _<_};
 ghost use lib.ListN.{length, take, drop};
 ghost use Rattle.codec.specs.Words.{le4, flat, wordAt, wordsOf, wordsIn, bytesIn};
-ghost use Rattle.codec.specs.Over.{over, laid, leastOf, poured};
+ghost use Rattle.answer.specs.Over.{over};
+ghost use Rattle.codec.specs.Over.{laid, leastOf, poured};
 ghost use Rattle.codec.specs.Ranges.{inside};
 
 fn wide(x: u8) -> u32

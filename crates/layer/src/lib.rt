@@ -41,8 +41,8 @@ pub enum Signal {
     Ais,
 }
 
-// Whether two cycles are the same in all 64 bytes.
-fn same_trace(a: &[u8; 64], b: &[u8; 64]) -> bool
+// Whether two cycles, or two traces, are the same in all 64 bytes.
+pub fn same_trace(a: &[u8; 64], b: &[u8; 64]) -> bool
     ensures { λ r. ⌜ r ≡ sameTrace (now (a .entry)) (now (b .entry)) ⌝ }
 {
     let mut same = true;

@@ -1,4 +1,4 @@
--- Laws of `over`, of the decimal digits and of the line. Assumes nothing.
+-- Laws of what is put, of the decimal digits and of the line. Assumes nothing.
 use Prim.Native.Nat.{ℕ, zero, suc, _+_, _-_, _*_, _/_, _%_, _^_, _≤_, _<_}
 use mathlib.Core.Path.{_≡_, refl, _∙_, ap, sym}
 use mathlib.Core.Bool.{Bool, true, false, cond}
@@ -12,28 +12,9 @@ use lib.Seq.{drop-drop, take-at, drop-at, set-split, append-snoc, length-take-le
 use borrow.Author.Tests.{lt-ltb, le-ltb, lt-leb, le-leb, leb-true, leb-false}
 use Rattle.answer.proofs.Cond.{by-cond}
 use Rattle.io.specs.Digits.{digits, glyph, Fewest}
-use Rattle.listing.specs.Text.{over, decimalIn, decimalOf, fieldOf, fieldsOf, lineOf, fitted}
-
-pub over-nil : (d : List ℕ) (at : ℕ) → d ≡ over d at []
-unfolding over
-over-nil d at = rw (append-nil, add-zero, take-append-drop)
-
-pub set-over : (d : List ℕ) (at b : ℕ) → at < length d → set d at b ≡ over d at (b ∷ [])
-unfolding over
-set-over d at b h = rw (append-snoc, add-one) (set-split d at b h)
-
-pub over-length : (d : List ℕ) (at : ℕ) (v : List ℕ) → at + length v ≤ length d → length (over d at v) ≡ length d
-unfolding over
-over-length d at v h = simp (length-append, length-drop, length-take-le at d (omega arith)) (omega arith)
-
--- what is written after what is written is one writing
-pub over-over : (d : List ℕ) (at n : ℕ) (v w : List ℕ) → at ≤ length d → n ≡ at + length v → over (over d at v) n w ≡ over d at (v ++ w)
-unfolding over
-over-over d at n v w h e =
-    let p : List ℕ = take at d ++ v in
-    let q : List ℕ = drop (at + length v) d in
-    let l : length p ≡ n = simp (length-append, length-take-le at d h) (sym e) in
-    rw (take-at p q n l, ← drop-drop (length w) n (p ++ q), drop-at p q n l, drop-drop (length w) (at + length v) d, length-append v w, add-assoc at (length v) (length w), append-assoc (take at d) v w)
+use Rattle.answer.specs.Over.{over}
+use Rattle.answer.proofs.Overs.{over-nil, over-over}
+use Rattle.listing.specs.Text.{decimalIn, decimalOf, fieldOf, fieldsOf, lineOf, fitted}
 
 pow-pos-10 : (j : ℕ) → 1 ≤ 10 ^ j
 pow-pos-10 zero = omega (arith, pow-zero 10)
@@ -69,15 +50,6 @@ fields-suc (n ∷ ns) (suc i) h = ap (λ (l : List ℕ). fieldOf n ++ l) (fields
 pub then : (d : List ℕ) (at p : ℕ) (v w o₁ o₂ : List ℕ) → at ≤ length d → p ≡ at + length v → o₁ ≡ over d at v → o₂ ≡ over o₁ p w → o₂ ≡ over d at (v ++ w)
 then d at p v w o₁ o₂ h e x y = y ∙ ap (λ (o : List ℕ). over o p w) x ∙ over-over d at p v w h e
 
--- one byte more of a list that is copied over
-pub over-suc : (d src : List ℕ) (at i : ℕ) (out : List ℕ) → at + i < length out → length out ≡ length d → i < length src
-    → out ≡ over d at (take i src) → set out (at + i) (getD src i 0) ≡ over d at (take (i + 1) src)
-over-suc d src at i out h l k e =
-    set-over out (at + i) (getD src i 0) h
-    ∙ ap (λ (o : List ℕ). over o (at + i) (getD src i 0 ∷ [])) e
-    ∙ over-over d at (at + i) (take i src) (getD src i 0 ∷ []) (omega arith) (ap (λ (n : ℕ). at + n) (sym (length-take-le i src (omega arith))))
-    ∙ ap (over d at) (rw (add-one, take-suc src i 0))
-
 -- a number below 2 ^ 64 has at most 20 digits
 pub at-most : (k n : ℕ) → n < 2 ^ 64 → Fewest 10 1 n k → k ≤ 20
 at-most k n u h = by (leb k 20) refl
@@ -91,11 +63,6 @@ at-most k n u h = by (leb k 20) refl
         let g : 20 ≤ k - 1 = omega arith in
         let m : 10 ^ 20 ≤ 10 ^ (k - 1) = pow-le-pow-right ten g in
         absurd (omega arith)
-
--- a blank and the digits that `io::decimal` put are the field
-pub field-is : (k n : ℕ) → n < 2 ^ 64 → Fewest 10 1 n k → (32 ∷ []) ++ digits 10 k n ≡ fieldOf n
-unfolding fieldOf
-field-is k n u h = ap (λ (l : List ℕ). 32 ∷ l) (digits-decimal k 20 n (at-most k n u h) h)
 
 -- what holds in the loop over the numbers: i of them are written, from a place on
 pub record Fields (d : List ℕ) (from : ℕ) (ns o : List ℕ) (at i : ℕ) : Type 0 where
@@ -169,13 +136,13 @@ fitted-is long at room v h =
     rw (le-leb room (long - at) l)
 
 -- no number takes more than 21 bytes, and so no line more than its room
-decimal-length : (f n : ℕ) → length (decimalIn f n) ≤ f
+pub decimal-length : (f n : ℕ) → length (decimalIn f n) ≤ f
 unfolding decimalIn
 decimal-length zero n = omega arith
 decimal-length (suc f) n =
     by-cond (λ (l : List ℕ). length l ≤ suc f) (ltb n 10) (λ _. omega arith) (λ _. rw length-append (omega (arith, decimal-length f (n / 10))))
 
-fields-length : (ns : List ℕ) → length (fieldsOf ns) ≤ 21 * length ns
+pub fields-length : (ns : List ℕ) → length (fieldsOf ns) ≤ 21 * length ns
 unfolding fieldsOf fieldOf
 fields-length [] = omega arith
 fields-length (n ∷ ns) = rw length-append (omega (arith, decimal-length 20 n, fields-length ns))

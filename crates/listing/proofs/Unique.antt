@@ -4,12 +4,28 @@ use mathlib.Core.List.{List}
 use Prim.Native.Nat.{ℕ}
 use denote.Ref.{now}
 use Rattle.answer.specs.Answer.{OneAnswer, OneEnd}
+use Rattle.listing.proofs.put_text.Kinds as text-kinds
+use Rattle.listing.proofs.put_text.Reads as text-reads
+use Rattle.listing.proofs.put_number.Kinds as number-kinds
+use Rattle.listing.proofs.put_number.Reads as number-reads
 use Rattle.listing.proofs.second_line.Kinds as second-kinds
 use Rattle.listing.proofs.second_line.Reads as second-reads
 use Rattle.listing.proofs.refusal_line.Kinds as refusal-kinds
 use Rattle.listing.proofs.refusal_line.Reads as refusal-reads
 use Rattle.listing.proofs.end_line.Kinds as end-kinds
 use Rattle.listing.proofs.end_line.Reads as end-reads
+
+pub text-one : OneAnswer 2 text-kinds.ps text-kinds.r text-reads.Post
+text-one κs a x y s t p q = p .0 ∙ sym (q .0)
+
+pub text-end : OneEnd 2 text-kinds.ps text-kinds.r (List ℕ) (λ κs s. now (s .1 .0)) text-reads.Post
+text-end κs a x y s t p q = p .1 ∙ sym (q .1)
+
+pub number-one : OneAnswer 1 number-kinds.ps number-kinds.r number-reads.Post
+number-one κs a x y s t p q = p .0 ∙ sym (q .0)
+
+pub number-end : OneEnd 1 number-kinds.ps number-kinds.r (List ℕ) (λ κs s. now (s .1 .0)) number-reads.Post
+number-end κs a x y s t p q = p .1 ∙ sym (q .1)
 
 pub second-one : OneAnswer 1 second-kinds.ps second-kinds.r second-reads.Post
 second-one κs a x y s t p q = p .0 ∙ sym (q .0)

@@ -38,13 +38,13 @@ refusalLine number offset = lineOf 82 (number ∷ offset ∷ [])
 abbrev pub endLine : ℕ → ℕ → List ℕ
 endLine marks frames = lineOf 69 (marks ∷ frames ∷ [])
 
--- a list with v written over it from a place on
-unfoldable pub over : List ℕ → ℕ → List ℕ → List ℕ
-over d at v = take at d ++ v ++ drop (at + length v) d
-
 -- what is written at a place of a buffer of a length: a line where the buffer has its room there, otherwise nothing
 unfoldable pub fitted : ℕ → ℕ → ℕ → List ℕ → List ℕ
 fitted long at room line = cond (leb room (long - at)) line []
+
+-- the room that the digits of a number are given
+abbrev pub numberRoom : ℕ
+numberRoom = 20
 
 -- the room that a line is given: two bytes, and 21 for each number
 abbrev pub secondRoom : ℕ

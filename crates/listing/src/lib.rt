@@ -3,7 +3,8 @@ ghost use mathlib.Core.Path.{_≡_};
 ghost use mathlib.Core.List.{[], _∷_};
 ghost use Prim.Native.Nat.{_+_, _-_, _*_, _≤_, _<_};
 ghost use lib.ListN.{length};
-ghost use Rattle.listing.specs.Text.{over, fieldOf, fieldsOf, lineOf, fitted, secondLine, refusalLine, endLine, secondRoom, pairRoom};
+ghost use Rattle.answer.specs.Over.{over};
+ghost use Rattle.listing.specs.Text.{decimalOf, fieldOf, fieldsOf, lineOf, fitted, secondLine, refusalLine, endLine, numberRoom, secondRoom, pairRoom};
 
 // One byte at a place.
 fn put_byte(out: &mut [u8], at: usize, b: u8) -> usize
@@ -16,7 +17,7 @@ fn put_byte(out: &mut [u8], at: usize, b: u8) -> usize
 
 // The bytes of src from a place on.
 fn put_bytes(out: &mut [u8], at: usize, src: &[u8]) -> usize
-    requires { ⌜ at + length (now src) ≤ length (now out) ⌝ }
+    requires { ⌜ length (now src) ≤ length (now out) - at ⌝ }
     ensures { λ r. ⌜ (r ≡ at + length (now (src .entry))) × (now (out .exit) ≡ over (now (out .entry)) at (now (src .entry))) ⌝ }
 {
     let mut i = 0;
@@ -27,15 +28,23 @@ fn put_bytes(out: &mut [u8], at: usize, src: &[u8]) -> usize
     at + i
 }
 
+// The digits of a number.
+fn put_decimal(out: &mut [u8], at: usize, n: u64) -> usize
+    requires { ⌜ at + 20 ≤ length (now out) ⌝ }
+    ensures { λ r. ⌜ (r ≡ at + length (decimalOf n)) × (r ≤ at + 20) × (now (out .exit) ≡ over (now (out .entry)) at (decimalOf n)) ⌝ }
+{
+    let mut digits = [0u8; 20];
+    let k = io::decimal(n, &mut digits);
+    put_bytes(out, at, &digits[..k])
+}
+
 // A blank and a number.
 fn put_field(out: &mut [u8], at: usize, n: u64) -> usize
     requires { ⌜ at + 21 ≤ length (now out) ⌝ }
     ensures { λ r. ⌜ (r ≡ at + length (fieldOf n)) × (r ≤ at + 21) × (now (out .exit) ≡ over (now (out .entry)) at (fieldOf n)) ⌝ }
 {
-    let mut digits = [0u8; 20];
-    let k = io::decimal(n, &mut digits);
     let p = put_byte(out, at, 32);
-    put_bytes(out, p, &digits[..k])
+    put_decimal(out, p, n)
 }
 
 fn wide(x: u32) -> u64
@@ -72,6 +81,28 @@ fn room(long: usize, at: usize) -> usize
         return 0;
     }
     long - at
+}
+
+// Puts the bytes of src at a place and answers the place after them. Where there is no room for all of them, it puts nothing.
+pub fn put_text(src: &[u8], out: &mut [u8], at: usize) -> usize
+    ensures { λ r. ⌜ (r ≡ at + length (fitted (length (now (out .entry))) at (length (now (src .entry))) (now (src .entry)))) × (now (out .exit) ≡ over (now (out .entry)) at (fitted (length (now (out .entry))) at (length (now (src .entry))) (now (src .entry)))) ⌝ }
+{
+    let free = room(out.len(), at);
+    if src.len() <= free {
+        return put_bytes(out, at, src);
+    }
+    at
+}
+
+// Puts the digits of a number, as `put_text` does, where there is room for 20.
+pub fn put_number(n: u64, out: &mut [u8], at: usize) -> usize
+    ensures { λ r. ⌜ (r ≡ at + length (fitted (length (now (out .entry))) at numberRoom (decimalOf n))) × (now (out .exit) ≡ over (now (out .entry)) at (fitted (length (now (out .entry))) at numberRoom (decimalOf n))) ⌝ }
+{
+    let free = room(out.len(), at);
+    if 20 <= free {
+        return put_decimal(out, at, n);
+    }
+    at
 }
 
 // Puts the line of a closed second at a place and answers the place after it. Where there is less room than `secondRoom`, it puts

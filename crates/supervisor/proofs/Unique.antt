@@ -19,6 +19,8 @@ use Rattle.supervisor.proofs.causes.path_down.Kinds as path-down-kinds
 use Rattle.supervisor.proofs.causes.path_down.Reads as path-down-reads
 use Rattle.supervisor.proofs.causes.head_of.Kinds as head-of-kinds
 use Rattle.supervisor.proofs.causes.head_of.Reads as head-of-reads
+use Rattle.supervisor.proofs.causes.nothing.Kinds as nothing-kinds
+use Rattle.supervisor.proofs.causes.nothing.Reads as nothing-reads
 use Rattle.supervisor.proofs.causes.report_of.Kinds as report-of-kinds
 use Rattle.supervisor.proofs.causes.report_of.Reads as report-of-reads
 use Rattle.supervisor.proofs.causes.no_report.Kinds as no-report-kinds
@@ -86,3 +88,6 @@ settings-refusal-one κs a x y s t p q = p ∙ sym q
 
 pub options-of-one : OneAnswer 0 options-of-kinds.ps options-of-kinds.r options-of-reads.Post
 options-of-one κs a x y s t p q = p ∙ sym q
+
+pub nothing-one : OneAnswer 0 nothing-kinds.ps nothing-kinds.r nothing-reads.Post
+nothing-one κs a x y s t p q = p ∙ sym q

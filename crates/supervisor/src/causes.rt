@@ -254,7 +254,7 @@ pub fn report_of(d: Standing, sm: u8, pm: u8) -> Report
 }
 
 // Nothing stands: what a refusal reports.
-fn nothing() -> Standing
+pub fn nothing() -> Standing
     ensures { λ r. ⌜ r ≡ nothingStands ⌝ }
 {
     Standing {

@@ -19,6 +19,8 @@ pub use causes::SectionActions;
 pub use causes::SectionCauses;
 pub use causes::SectionStands;
 pub use causes::Standing;
+pub use causes::nothing;
+pub use causes::report_of;
 use filter::Filter;
 use filter::Stat;
 use layer::Layer;

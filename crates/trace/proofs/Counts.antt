@@ -31,7 +31,7 @@ use Rattle.trace.specs.declared.Taken.{Taken}
 use Rattle.trace.specs.declared.Run.{Run}
 use Rattle.trace.specs.declared.Stop.the-variants as stop
 use Rattle.trace.proofs.Records.{Whole, whole-record}
-use Rattle.trace.proofs.Scans.{Sized, sized, run-end, run-refused, run-closed, run-on}
+use Rattle.trace.proofs.Scans.{Sized, sized, run-end, run-refused, run-closed, run-told, run-on}
 use Rattle.trace.proofs.Streams.{along, some-left, scan-refused, scan-on}
 
 not-so : true ≡ false → ⊥
@@ -170,24 +170,46 @@ module _ (at n : ℕ) (st : State) (h : Counted at n st) where
   taken-counted ys = kept-by ys (recordOf ys) (bodyOf (recordOf ys) ys) (whole-record ys)
 
 -- and so does a run over a buffer that starts at the offset base, m frames before it
-module _ (s : List ℕ) (base m : ℕ) where
+module _ (tell : Bool) (s : List ℕ) (base m : ℕ) where
   abbrev Keeps : ℕ → ℕ → State → Type 0
-  Keeps at n st = Counted (base + at) (m + n) st → Counted (base + runOf s at n st .at) (m + runOf s at n st .frames) (runOf s at n st .state)
+  Keeps at n st = Counted (base + at) (m + n) st → Counted (base + runOf tell s at n st .at) (m + runOf tell s at n st .frames) (runOf tell s at n st .state)
 
   pub run-counted : (at n : ℕ) (st : State) → Keeps at n st
   run-counted =
       along s Keeps
-      (λ at n st l h. rw (run-end s at n st l) h)
-      (λ at n st l z h. rw (run-refused (drop at s) at n st (some-left s at l) z) h)
-      (λ at n st l e c _ h. rw (run-closed (drop at s) at n st (some-left s at l) e c, ← add-assoc base at (sizeOf (recordOf (drop at s))), ← add-assoc m n (framesIn (recordOf (drop at s)))) (taken-counted (base + at) (m + n) st h (drop at s) e))
-      (λ at n st l e c ih h. rw (run-on (drop at s) at n st e c, drop-drop (sizeOf (recordOf (drop at s))) at s) (ih (rw (← add-assoc base at (sizeOf (recordOf (drop at s))), ← add-assoc m n (framesIn (recordOf (drop at s)))) (taken-counted (base + at) (m + n) st h (drop at s) e))))
+      (λ at n st l h. rw (run-end tell s at n st l) h)
+      (λ at n st l z h. rw (run-refused tell (drop at s) at n st (some-left s at l) z) h)
+      (λ at n st l e c _ h. rw (run-closed tell (drop at s) at n st (some-left s at l) e c) (next at n st e h))
+      (λ at n st l e c ih h. further tell refl at n st l e c ih h)
+    where
+      next : (at n : ℕ) (st : State) → takenOf st (drop at s) .refusal ≡ 0 → Counted (base + at) (m + n) st
+          → Counted (base + (at + sizeOf (recordOf (drop at s)))) (m + (n + framesIn (recordOf (drop at s)))) (takenOf st (drop at s) .state)
+      next at n st e h = rw (← add-assoc base at (sizeOf (recordOf (drop at s))), ← add-assoc m n (framesIn (recordOf (drop at s)))) (taken-counted (base + at) (m + n) st h (drop at s) e)
 
--- Where a run stops: not before it began, within the list, at least four bytes on where a second was closed, and with fewer than 83 bytes
--- left where a record was cut.
+      further : (b : Bool) → tell ≡ b → (at n : ℕ) (st : State) → at < length s → takenOf st (drop at s) .refusal ≡ 0 → takenOf st (drop at s) .closed ≡ false
+          → Keeps (at + sizeOf (recordOf (drop at s))) (n + framesIn (recordOf (drop at s))) (takenOf st (drop at s) .state) → Keeps at n st
+      further true z at n st l e c ih h = rw (z, run-told (drop at s) at n st (some-left s at l) e c) (next at n st e h)
+      further false z at n st l e c ih h = rw (z, run-on (drop at s) at n st e c, drop-drop (sizeOf (recordOf (drop at s))) at s) (rw z at (ih (next at n st e h)))
+
+-- an accepted record that closes no second is no mark: it has 71 bytes at least
+quiet-by : (st : State) (ys : List ℕ) (r : Record) (body : List ℕ) → Whole ys r → appliedOf st r body .refusal ≡ 0 → appliedOf st r body .closed ≡ false → 71 ≤ sizeOf r
+unfolding markedOf
+quiet-by st ys Frame body w = λ e c. omega arith
+quiet-by st ys Mark body w = by-cond (λ (t : Taken). t .refusal ≡ 0 → t .closed ≡ false → 71 ≤ 4) (st .begun) (λ _ e c. absurd (not-so c)) (λ _ e c. absurd (omega (arith, e)))
+quiet-by st ys Provisioning body w = λ e c. omega arith
+quiet-by st ys (Refused n) body w = λ e c. absurd (omega (arith, w .0, e))
+
+quiet : (st : State) (ys : List ℕ) → takenOf st ys .refusal ≡ 0 → takenOf st ys .closed ≡ false → 71 ≤ sizeOf (recordOf ys)
+unfolding takenOf
+quiet st ys = quiet-by st ys (recordOf ys) (bodyOf (recordOf ys) ys) (whole-record ys)
+
+-- Where a run stops: not before it began, within the list, at least four bytes on where a second was closed and 71 where a record was told,
+-- and with fewer than 83 bytes left where a record was cut.
 pub record Stands (s : List ℕ) (at : ℕ) (r : Run) : Type 0 where
   pub later : at ≤ r .at
   pub inside : r .at ≤ length s
   pub further : r .stop ≡ stop.Closed → at + 4 ≤ r .at
+  pub told : r .stop ≡ stop.Told → at + 71 ≤ r .at
   pub all : r .stop ≡ stop.More → r .at ≡ length s
   pub same : (n o : ℕ) → r .stop ≡ stop.Refused n o → o ≡ r .at
   pub cut : (o : ℕ) → r .stop ≡ stop.Refused 14 o → length s < r .at + 83
@@ -195,52 +217,69 @@ pub record Stands (s : List ℕ) (at : ℕ) (r : Run) : Type 0 where
 absurd-stop : {A : Type 0} → _≡_ {A = ℕ} 0 1 → A
 absurd-stop z = absurd (omega (arith, z))
 
-module _ (s : List ℕ) where
+module _ (tell : Bool) (s : List ℕ) where
   abbrev Standing : ℕ → ℕ → State → Type 0
-  Standing at n st = at ≤ length s → Stands s at (runOf s at n st)
+  Standing at n st = at ≤ length s → Stands s at (runOf tell s at n st)
 
   pub stands : (at n : ℕ) (st : State) → Standing at n st
   stands =
       along s Standing
-      (λ at n st l w. rw (run-end s at n st l) (record {
+      (λ at n st l w. rw (run-end tell s at n st l) (record {
         later = omega arith;
         inside = w;
         further = λ q. absurd-stop cc;
+        told = λ q. absurd-stop cc;
         all = λ _. omega arith;
         same = λ m o q. absurd-stop cc;
         cut = λ o q. absurd-stop cc;
       }))
-      (λ at n st l z w. rw (run-refused (drop at s) at n st (some-left s at l) z) (record {
+      (λ at n st l z w. rw (run-refused tell (drop at s) at n st (some-left s at l) z) (record {
         later = omega arith;
         inside = w;
         further = λ q. absurd-stop cc;
+        told = λ q. absurd-stop cc;
         all = λ q. absurd-stop cc;
         same = λ m o q. cc;
         cut = λ o q. let e : takenOf st (drop at s) .refusal ≡ 14 = cc in omega (arith, simp length-drop at (cut-short st (drop at s) e));
       }))
       (λ at n st l e c _ w.
       let z = sized st (drop at s) e in
-      let f : at + sizeOf (recordOf (drop at s)) ≤ length s = omega (arith, simp length-drop at (z .long)) in
-      rw (run-closed (drop at s) at n st (some-left s at l) e c) (record {
+      rw (run-closed tell (drop at s) at n st (some-left s at l) e c) (record {
         later = omega arith;
-        inside = f;
+        inside = omega (arith, simp length-drop at (z .long));
         further = λ _. omega (arith, z .some);
+        told = λ q. absurd-stop cc;
         all = λ q. absurd-stop cc;
         same = λ m o q. absurd-stop cc;
         cut = λ o q. absurd-stop cc;
       }))
-      (λ at n st l e c ih w.
-      let z = sized st (drop at s) e in
-      let f : at + sizeOf (recordOf (drop at s)) ≤ length s = omega (arith, simp length-drop at (z .long)) in
-      let h = ih f in
-      rw (run-on (drop at s) at n st e c, drop-drop (sizeOf (recordOf (drop at s))) at s) (record {
-        later = omega (arith, h .later);
-        inside = h .inside;
-        further = λ q. omega (arith, h .further q);
-        all = h .all;
-        same = h .same;
-        cut = h .cut;
-      }))
+      (λ at n st l e c ih w. quietly tell refl at n st l e c ih)
+    where
+      quietly : (b : Bool) → tell ≡ b → (at n : ℕ) (st : State) → at < length s → takenOf st (drop at s) .refusal ≡ 0 → takenOf st (drop at s) .closed ≡ false
+          → Standing (at + sizeOf (recordOf (drop at s))) (n + framesIn (recordOf (drop at s))) (takenOf st (drop at s) .state) → Stands s at (runOf tell s at n st)
+      quietly true b at n st l e c ih =
+          let z = sized st (drop at s) e in
+          rw (b, run-told (drop at s) at n st (some-left s at l) e c) (record {
+            later = omega arith;
+            inside = omega (arith, simp length-drop at (z .long));
+            further = λ q. absurd-stop cc;
+            told = λ _. omega (arith, quiet st (drop at s) e c);
+            all = λ q. absurd-stop cc;
+            same = λ m o q. absurd-stop cc;
+            cut = λ o q. absurd-stop cc;
+          })
+      quietly false b at n st l e c ih =
+          let z = sized st (drop at s) e in
+          let h = rw b at (ih (omega (arith, simp length-drop at (z .long)))) in
+          rw (b, run-on (drop at s) at n st e c, drop-drop (sizeOf (recordOf (drop at s))) at s) (record {
+            later = omega (arith, h .later);
+            inside = h .inside;
+            further = λ q. omega (arith, h .further q);
+            told = λ q. omega (arith, h .told q);
+            all = h .all;
+            same = h .same;
+            cut = h .cut;
+          })
 
 -- Where a scan stands, of s that starts at the offset base: its offset lies in s, what is left is what follows it there; it is `Counted`; and
 -- where it could go on, fewer than 83 bytes are left.
@@ -252,9 +291,9 @@ pub record Comes (s : List ℕ) (base at : ℕ) (c : Scan) : Type 0 where
   pub none : c .refusal ≡ 0 → length (c .rest) ≡ 0
   pub cut : c .refusal ≡ 14 → length (c .rest) < 83
 
-module _ (s : List ℕ) (base m : ℕ) where
+module _ (tell : Bool) (s : List ℕ) (base m : ℕ) where
   abbrev Coming : ℕ → ℕ → State → Type 0
-  Coming at n st = Counted (base + at) (m + n) st → Comes s base at (scanFrom (drop at s) 0 (base + at) (m + n) st)
+  Coming at n st = Counted (base + at) (m + n) st → Comes s base at (scanFrom tell (drop at s) 0 (base + at) (m + n) st)
 
   coming-end : (at n : ℕ) (st : State) → length s ≤ at → Coming at n st
   unfolding scanFrom
@@ -271,7 +310,7 @@ module _ (s : List ℕ) (base m : ℕ) where
 
   coming-refused : (at n : ℕ) (st : State) → at < length s → (takenOf st (drop at s) .refusal ≡ 0 → ⊥) → Coming at n st
   coming-refused at n st l z h =
-      rw (scan-refused (drop at s) (base + at) (m + n) st (some-left s at l) z) (record {
+      rw (scan-refused tell (drop at s) (base + at) (m + n) st (some-left s at l) z) (record {
         low = omega arith;
         high = λ _. omega arith;
         rest = rw (add-sub-cancel-left base at);
@@ -287,7 +326,7 @@ module _ (s : List ℕ) (base m : ℕ) where
       let f : at + sizeOf (recordOf (drop at s)) ≤ length s = omega (arith, simp length-drop at (z .long)) in
       let g : Counted (base + (at + sizeOf (recordOf (drop at s)))) (m + (n + framesIn (recordOf (drop at s)))) (takenOf st (drop at s) .state) = rw (← add-assoc base at (sizeOf (recordOf (drop at s))), ← add-assoc m n (framesIn (recordOf (drop at s)))) (taken-counted (base + at) (m + n) st h (drop at s) e) in
       let k = ih g in
-      rw (scan-on (drop at s) (base + at) (m + n) st e, drop-drop (sizeOf (recordOf (drop at s))) at s, add-assoc base at (sizeOf (recordOf (drop at s))), add-assoc m n (framesIn (recordOf (drop at s)))) (record {
+      rw (scan-on tell (drop at s) (base + at) (m + n) st e, drop-drop (sizeOf (recordOf (drop at s))) at s, add-assoc base at (sizeOf (recordOf (drop at s))), add-assoc m n (framesIn (recordOf (drop at s)))) (record {
         low = omega (arith, k .low);
         high = λ _. k .high f;
         rest = k .rest;
@@ -299,7 +338,7 @@ module _ (s : List ℕ) (base m : ℕ) where
   coming : (at n : ℕ) (st : State) → Coming at n st
   coming = along s Coming coming-end coming-refused (λ at n st l e c h. coming-on at n st l e h) (λ at n st l e c h. coming-on at n st l e h)
 
-pub comes : (s : List ℕ) (at n : ℕ) (st : State) → Counted at n st → Comes s at 0 (scanFrom s 0 at n st)
-comes s at n st h =
-    subst (λ (k : ℕ). Comes s at 0 (scanFrom s 0 at k st)) (add-zero n)
-    (subst (λ (k : ℕ). Comes s at 0 (scanFrom s 0 k (n + 0) st)) (add-zero at) (coming s at n 0 0 st (rw (add-zero at, add-zero n) h)))
+pub comes : (tell : Bool) (s : List ℕ) (at n : ℕ) (st : State) → Counted at n st → Comes s at 0 (scanFrom tell s 0 at n st)
+comes tell s at n st h =
+    subst (λ (k : ℕ). Comes s at 0 (scanFrom tell s 0 at k st)) (add-zero n)
+    (subst (λ (k : ℕ). Comes s at 0 (scanFrom tell s 0 k (n + 0) st)) (add-zero at) (coming tell s at n 0 0 st (rw (add-zero at, add-zero n) h)))

@@ -59,44 +59,50 @@ taken-append st zs ys n =
     (ap (λ (r : Record). appliedOf st r (bodyOf r (zs ++ ys))) e ∙ by-good st zs ys (recordOf zs) (whole-record zs), e)
 
 -- the run: skipping
-skipped : (ys : List ℕ) (k at n : ℕ) (st : State) → k ≤ length ys → runFrom ys k at n st ≡ runFrom (drop k ys) 0 (at + k) n st
+skipped : (tell : Bool) (ys : List ℕ) (k at n : ℕ) (st : State) → k ≤ length ys → runFrom tell ys k at n st ≡ runFrom tell (drop k ys) 0 (at + k) n st
 unfolding runFrom
-skipped ys zero at n st h = rw add-zero
-skipped (y ∷ ys) (suc k) at n st h =
-    skipped ys k (at + 1) n st (omega arith) ∙ ap (λ (m : ℕ). runFrom (drop k ys) 0 m n st) (omega arith)
-skipped [] (suc k) at n st h = absurd (omega arith)
+skipped tell ys zero at n st h = rw add-zero
+skipped tell (y ∷ ys) (suc k) at n st h =
+    skipped tell ys k (at + 1) n st (omega arith) ∙ ap (λ (m : ℕ). runFrom tell (drop k ys) 0 m n st) (omega arith)
+skipped tell [] (suc k) at n st h = absurd (omega arith)
 
--- the run at a list: its end, a refusal, a second closed, and on
-pub run-end : (s : List ℕ) (at n : ℕ) (st : State) → length s ≤ at → runOf s at n st ≡ record { at = at; frames = n; stop = stop.More; state = st }
+-- the run at a list: its end, a refusal, a second closed, a record told, and on
+pub run-end : (tell : Bool) (s : List ℕ) (at n : ℕ) (st : State) → length s ≤ at → runOf tell s at n st ≡ record { at = at; frames = n; stop = stop.More; state = st }
 unfolding runFrom
-run-end s at n st h = rw (drop-of-length-le s h)
+run-end tell s at n st h = rw (drop-of-length-le s h)
 
-pub run-refused : (ys : List ℕ) (at n : ℕ) (st : State) → 0 < length ys → (takenOf st ys .refusal ≡ 0 → ⊥)
-    → runFrom ys 0 at n st ≡ record { at = at; frames = n; stop = stop.Refused (takenOf st ys .refusal) at; state = st }
+pub run-refused : (tell : Bool) (ys : List ℕ) (at n : ℕ) (st : State) → 0 < length ys → (takenOf st ys .refusal ≡ 0 → ⊥)
+    → runFrom tell ys 0 at n st ≡ record { at = at; frames = n; stop = stop.Refused (takenOf st ys .refusal) at; state = st }
 unfolding runFrom
-run-refused [] at n st h z = absurd (omega arith)
-run-refused (y ∷ ys) at n st h z = rw (ne-eqb _ _ z)
+run-refused tell [] at n st h z = absurd (omega arith)
+run-refused tell (y ∷ ys) at n st h z = rw (ne-eqb _ _ z)
 
-pub run-closed : (ys : List ℕ) (at n : ℕ) (st : State) → 0 < length ys → takenOf st ys .refusal ≡ 0 → takenOf st ys .closed ≡ true
-    → runFrom ys 0 at n st ≡ record { at = at + sizeOf (recordOf ys); frames = n + framesIn (recordOf ys); stop = stop.Closed; state = takenOf st ys .state }
+pub run-closed : (tell : Bool) (ys : List ℕ) (at n : ℕ) (st : State) → 0 < length ys → takenOf st ys .refusal ≡ 0 → takenOf st ys .closed ≡ true
+    → runFrom tell ys 0 at n st ≡ record { at = at + sizeOf (recordOf ys); frames = n + framesIn (recordOf ys); stop = stop.Closed; state = takenOf st ys .state }
 unfolding runFrom
-run-closed [] at n st h e c = absurd (omega arith)
-run-closed (y ∷ ys) at n st h e c = rw (eq-eqb _ _ e, c)
+run-closed tell [] at n st h e c = absurd (omega arith)
+run-closed tell (y ∷ ys) at n st h e c = rw (eq-eqb _ _ e, c)
 
-on-by : (y : ℕ) (ys : List ℕ) (m at n : ℕ) (st : State) → 0 < m → m ≤ length (y ∷ ys) → runFrom ys (pred m) (at + 1) n st ≡ runFrom (drop m (y ∷ ys)) 0 (at + m) n st
-on-by y ys zero at n st h l = absurd (omega arith)
-on-by y ys (suc k) at n st h l = skipped ys k (at + 1) n st (omega arith) ∙ ap (λ (m : ℕ). runFrom (drop k ys) 0 m n st) (omega arith)
+pub run-told : (ys : List ℕ) (at n : ℕ) (st : State) → 0 < length ys → takenOf st ys .refusal ≡ 0 → takenOf st ys .closed ≡ false
+    → runFrom true ys 0 at n st ≡ record { at = at + sizeOf (recordOf ys); frames = n + framesIn (recordOf ys); stop = stop.Told; state = takenOf st ys .state }
+unfolding runFrom
+run-told [] at n st h e c = absurd (omega arith)
+run-told (y ∷ ys) at n st h e c = rw (eq-eqb _ _ e, c)
+
+on-by : (tell : Bool) (y : ℕ) (ys : List ℕ) (m at n : ℕ) (st : State) → 0 < m → m ≤ length (y ∷ ys) → runFrom tell ys (pred m) (at + 1) n st ≡ runFrom tell (drop m (y ∷ ys)) 0 (at + m) n st
+on-by tell y ys zero at n st h l = absurd (omega arith)
+on-by tell y ys (suc k) at n st h l = skipped tell ys k (at + 1) n st (omega arith) ∙ ap (λ (m : ℕ). runFrom tell (drop k ys) 0 m n st) (omega arith)
 
 pub run-on : (ys : List ℕ) (at n : ℕ) (st : State) → takenOf st ys .refusal ≡ 0 → takenOf st ys .closed ≡ false
-    → runFrom ys 0 at n st ≡ runFrom (drop (sizeOf (recordOf ys)) ys) 0 (at + sizeOf (recordOf ys)) (n + framesIn (recordOf ys)) (takenOf st ys .state)
+    → runFrom false ys 0 at n st ≡ runFrom false (drop (sizeOf (recordOf ys)) ys) 0 (at + sizeOf (recordOf ys)) (n + framesIn (recordOf ys)) (takenOf st ys .state)
 unfolding runFrom
 run-on [] at n st e c = let z = sized st [] e in absurd (omega (arith, z .some, z .long))
 run-on (y ∷ ys) at n st e c =
     let z = sized st (y ∷ ys) e in
-    rw (eq-eqb _ _ e, c) (on-by y ys (sizeOf (recordOf (y ∷ ys))) at (n + framesIn (recordOf (y ∷ ys))) (takenOf st (y ∷ ys) .state) (omega (arith, z .some)) (z .long))
+    rw (eq-eqb _ _ e, c) (on-by false y ys (sizeOf (recordOf (y ∷ ys))) at (n + framesIn (recordOf (y ∷ ys))) (takenOf st (y ∷ ys) .state) (omega (arith, z .some)) (z .long))
 
 -- The same at a position of s, with the record r that stands there and what was taken of it, t: what the loop of `scan` cites.
-module _ (s : List ℕ) (at n : ℕ) (st : State) (r : Record) (er : r ≡ recordAt s at) (h : at < length s) where
+module _ (tell : Bool) (s : List ℕ) (at n : ℕ) (st : State) (r : Record) (er : r ≡ recordAt s at) (h : at < length s) where
   some : 0 < length (drop at s)
   some = simp length-drop (omega arith)
 
@@ -108,24 +114,27 @@ module _ (s : List ℕ) (at n : ℕ) (st : State) (r : Record) (er : r ≡ recor
     unfolding takenOf
     taken-is = et ∙ ap (λ (q : Record). appliedOf st q (bodyOf q (drop at s))) er
 
-    pub refused : (t .refusal ≡ 0 → ⊥) → runOf s at n st ≡ record { at = at; frames = n; stop = stop.Refused (t .refusal) at; state = st }
-    refused z = rw taken-is (run-refused (drop at s) at n st some (rw taken-is at z))
+    pub refused : (t .refusal ≡ 0 → ⊥) → runOf tell s at n st ≡ record { at = at; frames = n; stop = stop.Refused (t .refusal) at; state = st }
+    refused z = rw taken-is (run-refused tell (drop at s) at n st some (rw taken-is at z))
 
     pub room : t .refusal ≡ 0 → (4 ≤ sizeOf r) × (at + sizeOf r ≤ length s) × (framesIn r ≤ 1)
     room e =
         let z = sized st (drop at s) (rw taken-is at e) in
         rw er (z .some, omega (arith, simp length-drop at (z .long)), z .one)
 
-    pub closed : t .refusal ≡ 0 → t .closed ≡ true → runOf s at n st ≡ record { at = at + sizeOf r; frames = n + framesIn r; stop = stop.Closed; state = t .state }
-    closed e c = rw (taken-is, er) (run-closed (drop at s) at n st some (rw taken-is at e) (rw taken-is at c))
+    pub closed : t .refusal ≡ 0 → t .closed ≡ true → runOf tell s at n st ≡ record { at = at + sizeOf r; frames = n + framesIn r; stop = stop.Closed; state = t .state }
+    closed e c = rw (taken-is, er) (run-closed tell (drop at s) at n st some (rw taken-is at e) (rw taken-is at c))
 
-    pub on : t .refusal ≡ 0 → t .closed ≡ false → runOf s at n st ≡ runOf s (at + sizeOf r) (n + framesIn r) (t .state)
-    on e c =
-        rw (taken-is, er, ← drop-drop)
+    pub told : t .refusal ≡ 0 → t .closed ≡ false → tell ≡ true → runOf tell s at n st ≡ record { at = at + sizeOf r; frames = n + framesIn r; stop = stop.Told; state = t .state }
+    told e c l = rw (l, taken-is, er) (run-told (drop at s) at n st some (rw taken-is at e) (rw taken-is at c))
+
+    pub on : t .refusal ≡ 0 → t .closed ≡ false → tell ≡ false → runOf tell s at n st ≡ runOf tell s (at + sizeOf r) (n + framesIn r) (t .state)
+    on e c l =
+        rw (l, taken-is, er, ← drop-drop)
         (run-on (drop at s) at n st (rw taken-is at e) (rw taken-is at c))
 
   -- a refusal of the record itself
-  pub refused-itself : (m : ℕ) → r ≡ Refused m → runOf s at n st ≡ record { at = at; frames = n; stop = stop.Refused m at; state = st }
+  pub refused-itself : (m : ℕ) → r ≡ Refused m → runOf tell s at n st ≡ record { at = at; frames = n; stop = stop.Refused m at; state = st }
   refused-itself m e =
       let l = refused-some (drop at s) (recordOf (drop at s)) m (whole-record (drop at s)) (sym er ∙ e) in
       refused (refusedOf st m) (sym (applied-refused st (bodyOf r (drop at s)) r m e)) (λ z. omega (arith, l, z))

@@ -8,6 +8,7 @@ use Rattle.supervisor.specs.declared.settings.Request.{Request}
 use Rattle.supervisor.specs.declared.Provisioned.{Provisioned}
 use Rattle.supervisor.specs.declared.Stepped.{Stepped}
 use Rattle.supervisor.specs.declared.Marked.{Marked}
+use Rattle.supervisor.specs.Causes.{nothingStands}
 use Rattle.supervisor.specs.Supervisor.{blankSupervisor, provisionOf, stepOf, markOf}
 use Rattle.trace.specs.declared.Record.{Record}
 use Rattle.trace.specs.declared.Record.the-variants.{Frame, Mark, Provisioning, Refused}
@@ -18,9 +19,9 @@ use Rattle.trace.specs.declared.Stop.{Stop}
 use Rattle.trace.specs.declared.Stop.the-variants as stop
 use Rattle.trace.specs.Record.{fourAt, recordOf, sizeOf, bodyOf, framesIn}
 
--- what a scan starts with: no provisioning met, no second closed
+-- what a scan starts with: no provisioning met, no second closed, and nothing stands
 abbrev pub startOf : State
-startOf = record { begun = false; sup = blankSupervisor; last = replicate 20 0 }
+startOf = record { begun = false; sup = blankSupervisor; last = replicate 20 0; standing = nothingStands }
 
 -- a record refused: nothing is changed
 abbrev pub refusedOf : State → ℕ → Taken
@@ -46,20 +47,20 @@ provisionIn body = provisionOf (getD body 0 0) (sectionIn body) (pathIn body) (t
 unfoldable pub framedOf : State → List ℕ → Taken
 framedOf st body =
     cond (st .begun)
-    (record { refusal = stepIn st body .refusal; closed = false; state = record { begun = true; sup = stepIn st body .supervisor; last = st .last } })
+    (record { refusal = stepIn st body .refusal; closed = false; state = record { begun = true; sup = stepIn st body .supervisor; last = st .last; standing = stepIn st body .report .standing } })
     (refusedOf st 16)
 
 unfoldable pub markedOf : State → Taken
 markedOf st =
     cond (st .begun)
-    (record { refusal = markOf (st .sup) .refusal; closed = true; state = record { begun = true; sup = markOf (st .sup) .supervisor; last = markOf (st .sup) .figures } })
+    (record { refusal = markOf (st .sup) .refusal; closed = true; state = record { begun = true; sup = markOf (st .sup) .supervisor; last = markOf (st .sup) .figures; standing = st .standing } })
     (refusedOf st 16)
 
 unfoldable pub provisionedOf : State → List ℕ → Taken
 provisionedOf st body =
     cond (st .begun)
     (refusedOf st 16)
-    (record { refusal = provisionIn body .refusal; closed = false; state = record { begun = true; sup = provisionIn body .supervisor; last = st .last } })
+    (record { refusal = provisionIn body .refusal; closed = false; state = record { begun = true; sup = provisionIn body .supervisor; last = st .last; standing = st .standing } })
 
 -- a record with its body, taken in a state
 abbrev pub appliedOf : State → Record → List ℕ → Taken
@@ -73,19 +74,21 @@ unfoldable pub takenOf : State → List ℕ → Taken
 takenOf st ys = appliedOf st (recordOf ys) (bodyOf (recordOf ys) ys)
 
 -- The run over a list of bytes, from the place `at` on, n frames before it: skip the rest of the present record, then take the next. It
--- ends at the first record refused, at one that closes a second, and at the end.
-unfoldable pub runFrom : List ℕ → ℕ → ℕ → ℕ → State → Run
-runFrom [] skip at n st = record { at = at; frames = n; stop = stop.More; state = st }
-runFrom (y ∷ ys) (suc k) at n st = runFrom ys k (at + 1) n st
-runFrom (y ∷ ys) zero at n st =
+-- ends at the first record refused, at one that closes a second, at each that is told, and at the end.
+unfoldable pub runFrom : Bool → List ℕ → ℕ → ℕ → ℕ → State → Run
+runFrom tell [] skip at n st = record { at = at; frames = n; stop = stop.More; state = st }
+runFrom tell (y ∷ ys) (suc k) at n st = runFrom tell ys k (at + 1) n st
+runFrom tell (y ∷ ys) zero at n st =
     let r : Record = recordOf (y ∷ ys) in
     let t : Taken = takenOf st (y ∷ ys) in
     cond (eqb (t .refusal) 0)
     (cond (t .closed)
     (record { at = at + sizeOf r; frames = n + framesIn r; stop = stop.Closed; state = t .state })
-    (runFrom ys (pred (sizeOf r)) (at + 1) (n + framesIn r) (t .state)))
+    (cond tell
+    (record { at = at + sizeOf r; frames = n + framesIn r; stop = stop.Told; state = t .state })
+    (runFrom tell ys (pred (sizeOf r)) (at + 1) (n + framesIn r) (t .state))))
     (record { at = at; frames = n; stop = stop.Refused (t .refusal) at; state = st })
 
 -- the run over a list from a position on
-abbrev pub runOf : List ℕ → ℕ → ℕ → State → Run
-runOf s at n st = runFrom (drop at s) 0 at n st
+abbrev pub runOf : Bool → List ℕ → ℕ → ℕ → State → Run
+runOf tell s at n st = runFrom tell (drop at s) 0 at n st

@@ -1,5 +1,6 @@
 // The records of a trace: what stands at a position, and the scan of a buffer's records.
 use supervisor::Request;
+use supervisor::Standing;
 use supervisor::Supervisor;
 ghost use mathlib.Core.Path.{_≡_};
 ghost use Prim.Native.Nat.{_+_, _<_, _≤_};
@@ -15,11 +16,13 @@ pub enum Record {
     Refused(u8),
 }
 
-// What a scan carries: whether a provisioning was met, the supervisor since, and the figures of the second that was closed last.
+// What a scan carries: whether a provisioning was met, the supervisor since, the figures of the second that was closed last, and what
+// stands after the last frame.
 pub struct State {
     pub begun: bool,
     pub sup: Supervisor,
     pub last: [u32; 20],
+    pub standing: Standing,
 }
 
 // One record taken: its refusal, 0 where it was accepted; whether it closed a second; the state after it.
@@ -29,10 +32,12 @@ pub struct Taken {
     pub state: State,
 }
 
-// Why a run over a buffer's records stops: none is left, a second was closed, a record at an offset was refused.
+// Why a run over a buffer's records stops: none is left, a second was closed, a record was taken and each is told, a record at an offset was
+// refused.
 pub enum Stop {
     More,
     Closed,
+    Told,
     Refused { number: u8, offset: usize },
 }
 
@@ -141,10 +146,12 @@ pub fn start() -> State
     ensures { λ r. ⌜ r ≡ startOf ⌝ }
 {
     let none = supervisor::blank();
+    let nothing = supervisor::nothing();
     State {
         begun: false,
         sup: none,
         last: [0; 20],
+        standing: nothing,
     }
 }
 
@@ -158,6 +165,7 @@ fn take_frame(st: State, body: &[u8]) -> Taken
         let last = st.last;
         let a = supervisor::step(sup, &body[0..64], body[64], body[65], body[66]);
         let next = a.supervisor;
+        let standing = a.report.standing;
         return Taken {
             refusal: a.refusal,
             closed: false,
@@ -165,6 +173,7 @@ fn take_frame(st: State, body: &[u8]) -> Taken
                 begun: true,
                 sup: next,
                 last: last,
+                standing: standing,
             },
         };
     }
@@ -180,6 +189,7 @@ fn take_mark(st: State) -> Taken
 {
     if st.begun {
         let sup = st.sup;
+        let standing = st.standing;
         let a = supervisor::mark(sup);
         let next = a.supervisor;
         let figures = a.figures;
@@ -190,6 +200,7 @@ fn take_mark(st: State) -> Taken
                 begun: true,
                 sup: next,
                 last: figures,
+                standing: standing,
             },
         };
     }
@@ -239,6 +250,7 @@ fn take_provisioning(st: State, body: &[u8]) -> Taken
         };
     }
     let last = st.last;
+    let standing = st.standing;
     let section = section_in(body);
     let path = path_in(body);
     let a = supervisor::provision(body[0], section, path, &body[15..47], &body[47..79]);
@@ -250,6 +262,7 @@ fn take_provisioning(st: State, body: &[u8]) -> Taken
             begun: true,
             sup: next,
             last: last,
+            standing: standing,
         },
     }
 }
@@ -279,9 +292,9 @@ fn applied(st: State, r: Record, s: &[u8], at: usize) -> Taken
     }
 }
 
-// Takes the records of s from a position on, until one is refused, one closes a second, or none is left.
-pub fn scan(st: State, s: &[u8], from: usize) -> Run
-    ensures { λ r. ⌜ r ≡ runOf (now (s .entry)) from 0 st ⌝ }
+// Takes the records of s from a position on, until one is refused, one closes a second, or none is left; with `tell` one at most.
+pub fn scan(tell: bool, st: State, s: &[u8], from: usize) -> Run
+    ensures { λ r. ⌜ r ≡ runOf tell (now (s .entry)) from 0 st ⌝ }
 {
     let mut at = from;
     let mut frames = 0;
@@ -304,6 +317,9 @@ pub fn scan(st: State, s: &[u8], from: usize) -> Run
             at += length_of(rec) + 2;
             if t.closed {
                 break Stop::Closed;
+            }
+            if tell {
+                break Stop::Told;
             }
             continue;
         };

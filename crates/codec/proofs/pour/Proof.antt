@@ -4,8 +4,10 @@ use mathlib.Core.List.{List, [], _∷_, _++_}
 use native.Mathlib.Omega.{arith}
 use denote.Ref.{now}
 use lib.ListN.{length, take, length-set}
-use Rattle.codec.specs.Over.{over, leastOf, poured}
-use Rattle.codec.proofs.Overs.{over-nil, over-suc, least-low, least-left, take-least}
+use Rattle.answer.specs.Over.{over}
+use Rattle.codec.specs.Over.{leastOf, poured}
+use Rattle.answer.proofs.Overs.{over-nil, over-suc}
+use Rattle.codec.proofs.Overs.{least-low, least-left, take-least}
 use borrow.Author.Needs.{needs}
 use Rattle.codec.proofs.pour.Statement.{statement}
 use Rattle.codec.proofs.pour.Tie as tie

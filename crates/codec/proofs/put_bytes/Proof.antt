@@ -5,8 +5,8 @@ use native.Mathlib.Omega.{arith}
 use denote.Ref.{now}
 use lib.ListN.{length, getD, take, drop, set, length-set, length-drop}
 use lib.Seq.{take-length}
-use Rattle.codec.specs.Over.{over}
-use Rattle.codec.proofs.Overs.{over-nil, over-suc}
+use Rattle.answer.specs.Over.{over}
+use Rattle.answer.proofs.Overs.{over-nil, over-suc}
 use borrow.Author.Needs.{needs}
 use Rattle.codec.proofs.put_bytes.Statement.{statement}
 use Rattle.codec.proofs.put_bytes.Tie as tie

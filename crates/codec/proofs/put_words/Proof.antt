@@ -6,8 +6,8 @@ use denote.Ref.{now}
 use lib.ListN.{length, getD, take, drop, set, length-set, length-drop}
 use lib.Seq.{take-length}
 use Rattle.codec.specs.Words.{flat}
-use Rattle.codec.specs.Over.{over}
-use Rattle.codec.proofs.Overs.{over-nil}
+use Rattle.answer.specs.Over.{over}
+use Rattle.answer.proofs.Overs.{over-nil}
 use Rattle.codec.proofs.Words.{over-word}
 use borrow.Author.Needs.{needs}
 use Rattle.codec.proofs.put_words.Statement.{statement}

@@ -1,6 +1,6 @@
 use denote.Ref.{now}
 use mathlib.Core.Path.{refl}
-use Rattle.listing.proofs.Overs.{set-over}
+use Rattle.answer.proofs.Overs.{set-over}
 use borrow.Author.Needs.{needs}
 use Rattle.listing.proofs.put_byte.Statement.{statement}
 use Rattle.listing.proofs.put_byte.Tie as tie

@@ -1,5 +1,5 @@
-use Rattle.listing.proofs.Overs.{over-nil, over-suc}
-use Rattle.listing.specs.Text.{over}
+use Rattle.answer.proofs.Overs.{over-nil, over-suc}
+use Rattle.answer.specs.Over.{over}
 use lib.Seq.{take-all}
 use lib.ListN.{length, take, length-set}
 use denote.Ref.{now}

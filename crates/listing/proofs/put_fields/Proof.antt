@@ -5,7 +5,8 @@ use Prim.Native.Nat.{ℕ, _-_, _≤_, _<_, _+_, _*_}
 use native.Mathlib.Omega.{arith}
 use mathlib.Core.Path.{_∙_, ap}
 use borrow.Author.Needs.{needs}
-use Rattle.listing.specs.Text.{over, fieldOf}
+use Rattle.answer.specs.Over.{over}
+use Rattle.listing.specs.Text.{fieldOf}
 use mathlib.Core.List.{List}
 use Rattle.listing.proofs.put_fields.Statement.{statement}
 use Rattle.listing.proofs.put_fields.Tie as tie

@@ -1,4 +1,4 @@
-use Rattle.trace.proofs.Scans.{run-end, within, refused, room, closed, on, refused-itself}
+use Rattle.trace.proofs.Scans.{run-end, within, refused, room, closed, told, on, refused-itself}
 use Rattle.trace.specs.Scan.{runOf}
 use lib.ListN.{length}
 use denote.Ref.{now}
@@ -16,10 +16,10 @@ use Rattle.trace.proofs.length_of.Reads as length-of-reads
 use Rattle.trace.proofs.record_at.Reads as record-at-reads
 
 abbrev Inv-loop : tie.InvT-loop
-Inv-loop s from at₀ frames₀ state₀ at frames state = (runOf s at₀ frames₀ state₀ ≡ runOf s at frames state) × (frames ≤ at)
+Inv-loop tell s from at₀ frames₀ state₀ at frames state = (runOf tell s at₀ frames₀ state₀ ≡ runOf tell s at frames state) × (frames ≤ at)
 
 abbrev μ-loop : tie.MeasureT-loop
-μ-loop s from at₀ frames₀ state₀ at frames state = length s - at
+μ-loop tell s from at₀ frames₀ state₀ at frames state = length s - at
 
 -- src/lib.rt:289:9
 loop-holds : tie.Need-loop-holds Inv-loop μ-loop
@@ -37,8 +37,9 @@ enum-known-rec c = search needs
 applied-requires : tie.Need-applied-requires Inv-loop μ-loop
 applied-requires c κs =
     let l = c .before .before .before .loop in
+    let tell = c .before .before .before .before .before .args .tell in
     let s = now (c .before .before .before .before .before .args .s) in
-    within s (l .at) (l .frames) (l .state) (c .before .record-at .result) (c .before .record-at .ensures) (c .before .before .if1 .left)
+    within tell s (l .at) (l .frames) (l .state) (c .before .record-at .result) (c .before .record-at .ensures) (c .before .before .if1 .left)
 
 -- src/lib.rt:303:23
 frames-in-requires : tie.Need-frames-in-requires Inv-loop μ-loop
@@ -48,8 +49,9 @@ frames-in-requires c κs = search needs
 add-frames : tie.Need-add-frames Inv-loop μ-loop
 add-frames c =
     let l = c .before .before .before .before .before .before .before .before .loop in
+    let tell = c .before .before .before .before .before .before .before .before .before .before .args .tell in
     let s = now (c .before .before .before .before .before .before .before .before .before .before .args .s) in
-    omega (arith, c .before .before .before .before .before .before .before .before .before .before .good .1 .0 .0, c .frames-in .ensures, l .inv .1, room s (l .at) (l .frames) (l .state) (c .before .before .before .before .before .before .record-at .result) (c .before .before .before .before .before .before .record-at .ensures) (c .before .before .before .before .before .before .before .if1 .left) (c .before .before .before .before .applied .result) (c .before .before .before .before .applied .ensures) (c .before .before .if2 .left))
+    omega (arith, c .before .before .before .before .before .before .before .before .before .before .good .1 .1 .0 .0, c .frames-in .ensures, l .inv .1, room tell s (l .at) (l .frames) (l .state) (c .before .before .before .before .before .before .record-at .result) (c .before .before .before .before .before .before .record-at .ensures) (c .before .before .before .before .before .before .before .if1 .left) (c .before .before .before .before .applied .result) (c .before .before .before .before .applied .ensures) (c .before .before .if2 .left))
 
 -- src/lib.rt:304:19
 length-of-requires : tie.Need-length-of-requires Inv-loop μ-loop
@@ -59,59 +61,75 @@ length-of-requires c κs = search needs
 add-at : tie.Need-add-at Inv-loop μ-loop
 add-at c =
     let l = c .before .before .before .before .before .before .before .before .before .loop in
+    let tell = c .before .before .before .before .before .before .before .before .before .before .before .args .tell in
     let s = now (c .before .before .before .before .before .before .before .before .before .before .before .args .s) in
-    omega (arith, c .before .before .before .before .before .before .before .before .before .before .before .good .1 .0 .0, c .length-of .ensures, room s (l .at) (l .frames) (l .state) (c .before .before .before .before .before .before .before .record-at .result) (c .before .before .before .before .before .before .before .record-at .ensures) (c .before .before .before .before .before .before .before .before .if1 .left) (c .before .before .before .before .before .applied .result) (c .before .before .before .before .before .applied .ensures) (c .before .before .before .if2 .left))
+    omega (arith, c .before .before .before .before .before .before .before .before .before .before .before .good .1 .1 .0 .0, c .length-of .ensures, room tell s (l .at) (l .frames) (l .state) (c .before .before .before .before .before .before .before .record-at .result) (c .before .before .before .before .before .before .before .record-at .ensures) (c .before .before .before .before .before .before .before .before .if1 .left) (c .before .before .before .before .before .applied .result) (c .before .before .before .before .before .applied .ensures) (c .before .before .before .if2 .left))
 
 -- src/lib.rt:304:13
 add-at-2 : tie.Need-add-at-2 Inv-loop μ-loop
 add-at-2 c =
     let l = c .before .before .before .before .before .before .before .before .before .loop in
+    let tell = c .before .before .before .before .before .before .before .before .before .before .before .args .tell in
     let s = now (c .before .before .before .before .before .before .before .before .before .before .before .args .s) in
-    omega (arith, c .before .before .before .before .before .before .before .before .before .before .before .good .1 .0 .0, c .length-of .ensures, room s (l .at) (l .frames) (l .state) (c .before .before .before .before .before .before .before .record-at .result) (c .before .before .before .before .before .before .before .record-at .ensures) (c .before .before .before .before .before .before .before .before .if1 .left) (c .before .before .before .before .before .applied .result) (c .before .before .before .before .before .applied .ensures) (c .before .before .before .if2 .left))
+    omega (arith, c .before .before .before .before .before .before .before .before .before .before .before .good .1 .1 .0 .0, c .length-of .ensures, room tell s (l .at) (l .frames) (l .state) (c .before .before .before .before .before .before .before .record-at .result) (c .before .before .before .before .before .before .before .record-at .ensures) (c .before .before .before .before .before .before .before .before .if1 .left) (c .before .before .before .before .before .applied .result) (c .before .before .before .before .before .applied .ensures) (c .before .before .before .if2 .left))
 
 -- src/lib.rt:289:9
 loop-less : tie.Need-loop-less Inv-loop μ-loop
 loop-less c =
-    let l = c .before .before .before .before .before .before .before .before .before .before .loop in
-    let s = now (c .before .before .before .before .before .before .before .before .before .before .before .before .args .s) in
-    omega (arith, c .before .length-of .ensures, room s (l .at) (l .frames) (l .state) (c .before .before .before .before .before .before .before .before .record-at .result) (c .before .before .before .before .before .before .before .before .record-at .ensures) (c .before .before .before .before .before .before .before .before .before .if1 .left) (c .before .before .before .before .before .before .applied .result) (c .before .before .before .before .before .before .applied .ensures) (c .before .before .before .before .if2 .left))
+    let l = c .before .before .before .before .before .before .before .before .before .before .before .loop in
+    let tell = c .before .before .before .before .before .before .before .before .before .before .before .before .before .args .tell in
+    let s = now (c .before .before .before .before .before .before .before .before .before .before .before .before .before .args .s) in
+    omega (arith, c .before .before .length-of .ensures, room tell s (l .at) (l .frames) (l .state) (c .before .before .before .before .before .before .before .before .before .record-at .result) (c .before .before .before .before .before .before .before .before .before .record-at .ensures) (c .before .before .before .before .before .before .before .before .before .before .if1 .left) (c .before .before .before .before .before .before .before .applied .result) (c .before .before .before .before .before .before .before .applied .ensures) (c .before .before .before .before .before .if2 .left))
 
 -- src/lib.rt:289:9
 loop-again : tie.Need-loop-again Inv-loop μ-loop
 loop-again c =
-    let l = c .before .before .before .before .before .before .before .before .before .before .loop in
-    let s = now (c .before .before .before .before .before .before .before .before .before .before .before .before .args .s) in (
-      rw (c .before .length-of .ensures, c .before .before .frames-in .ensures) (l .inv .0 ∙ on s (l .at) (l .frames) (l .state) (c .before .before .before .before .before .before .before .before .record-at .result) (c .before .before .before .before .before .before .before .before .record-at .ensures) (c .before .before .before .before .before .before .before .before .before .if1 .left) (c .before .before .before .before .before .before .applied .result) (c .before .before .before .before .before .before .applied .ensures) (c .before .before .before .before .if2 .left) (c .if3 .left)),
-      omega (arith, c .before .length-of .ensures, c .before .before .frames-in .ensures, l .inv .1, room s (l .at) (l .frames) (l .state) (c .before .before .before .before .before .before .before .before .record-at .result) (c .before .before .before .before .before .before .before .before .record-at .ensures) (c .before .before .before .before .before .before .before .before .before .if1 .left) (c .before .before .before .before .before .before .applied .result) (c .before .before .before .before .before .before .applied .ensures) (c .before .before .before .before .if2 .left)),
+    let l = c .before .before .before .before .before .before .before .before .before .before .before .loop in
+    let tell = c .before .before .before .before .before .before .before .before .before .before .before .before .before .args .tell in
+    let s = now (c .before .before .before .before .before .before .before .before .before .before .before .before .before .args .s) in (
+      rw (c .before .before .length-of .ensures, c .before .before .before .frames-in .ensures) (l .inv .0 ∙ on tell s (l .at) (l .frames) (l .state) (c .before .before .before .before .before .before .before .before .before .record-at .result) (c .before .before .before .before .before .before .before .before .before .record-at .ensures) (c .before .before .before .before .before .before .before .before .before .before .if1 .left) (c .before .before .before .before .before .before .before .applied .result) (c .before .before .before .before .before .before .before .applied .ensures) (c .before .before .before .before .before .if2 .left) (c .before .if3 .left) (c .if4 .left)),
+      omega (arith, c .before .before .length-of .ensures, c .before .before .before .frames-in .ensures, l .inv .1, room tell s (l .at) (l .frames) (l .state) (c .before .before .before .before .before .before .before .before .before .record-at .result) (c .before .before .before .before .before .before .before .before .before .record-at .ensures) (c .before .before .before .before .before .before .before .before .before .before .if1 .left) (c .before .before .before .before .before .before .before .applied .result) (c .before .before .before .before .before .before .before .applied .ensures) (c .before .before .before .before .before .if2 .left)),
     )
 
 -- src/lib.rt:283:1
 returns : tie.Need-returns Inv-loop μ-loop
 returns c =
     let l = c .before .loop in
+    let tell = c .before .before .before .args .tell in
     let s = now (c .before .before .before .args .s) in
-    sym (l .inv .0 ∙ run-end s (l .at) (l .frames) (l .state) (c .if1 .taken))
+    sym (l .inv .0 ∙ run-end tell s (l .at) (l .frames) (l .state) (c .if1 .taken))
 
 -- src/lib.rt:283:1
 returns-2 : tie.Need-returns-2 Inv-loop μ-loop
 returns-2 c =
     let l = c .before .before .before .before .before .before .loop in
+    let tell = c .before .before .before .before .before .before .before .before .args .tell in
     let s = now (c .before .before .before .before .before .before .before .before .args .s) in
-    sym (l .inv .0 ∙ refused s (l .at) (l .frames) (l .state) (c .before .before .before .before .record-at .result) (c .before .before .before .before .record-at .ensures) (c .before .before .before .before .before .if1 .left) (c .before .before .applied .result) (c .before .before .applied .ensures) (c .if2 .taken))
+    sym (l .inv .0 ∙ refused tell s (l .at) (l .frames) (l .state) (c .before .before .before .before .record-at .result) (c .before .before .before .before .record-at .ensures) (c .before .before .before .before .before .if1 .left) (c .before .before .applied .result) (c .before .before .applied .ensures) (c .if2 .taken))
 
 -- src/lib.rt:283:1
 returns-3 : tie.Need-returns-3 Inv-loop μ-loop
 returns-3 c =
     let l = c .before .before .before .before .before .before .before .before .before .before .loop in
+    let tell = c .before .before .before .before .before .before .before .before .before .before .before .before .args .tell in
     let s = now (c .before .before .before .before .before .before .before .before .before .before .before .before .args .s) in
-    rw (c .before .length-of .ensures, c .before .before .frames-in .ensures) (sym (l .inv .0 ∙ closed s (l .at) (l .frames) (l .state) (c .before .before .before .before .before .before .before .before .record-at .result) (c .before .before .before .before .before .before .before .before .record-at .ensures) (c .before .before .before .before .before .before .before .before .before .if1 .left) (c .before .before .before .before .before .before .applied .result) (c .before .before .before .before .before .before .applied .ensures) (c .before .before .before .before .if2 .left) (c .if3 .taken)))
+    rw (c .before .length-of .ensures, c .before .before .frames-in .ensures) (sym (l .inv .0 ∙ closed tell s (l .at) (l .frames) (l .state) (c .before .before .before .before .before .before .before .before .record-at .result) (c .before .before .before .before .before .before .before .before .record-at .ensures) (c .before .before .before .before .before .before .before .before .before .if1 .left) (c .before .before .before .before .before .before .applied .result) (c .before .before .before .before .before .before .applied .ensures) (c .before .before .before .before .if2 .left) (c .if3 .taken)))
 
 -- src/lib.rt:283:1
 returns-4 : tie.Need-returns-4 Inv-loop μ-loop
 returns-4 c =
+    let l = c .before .before .before .before .before .before .before .before .before .before .before .loop in
+    let tell = c .before .before .before .before .before .before .before .before .before .before .before .before .before .args .tell in
+    let s = now (c .before .before .before .before .before .before .before .before .before .before .before .before .before .args .s) in
+    rw (c .before .before .length-of .ensures, c .before .before .before .frames-in .ensures) (sym (l .inv .0 ∙ told tell s (l .at) (l .frames) (l .state) (c .before .before .before .before .before .before .before .before .before .record-at .result) (c .before .before .before .before .before .before .before .before .before .record-at .ensures) (c .before .before .before .before .before .before .before .before .before .before .if1 .left) (c .before .before .before .before .before .before .before .applied .result) (c .before .before .before .before .before .before .before .applied .ensures) (c .before .before .before .before .before .if2 .left) (c .before .if3 .left) (c .if4 .taken)))
+
+-- src/lib.rt:283:1
+returns-5 : tie.Need-returns-5 Inv-loop μ-loop
+returns-5 c =
     let l = c .before .before .before .before .before .loop in
+    let tell = c .before .before .before .before .before .before .before .args .tell in
     let s = now (c .before .before .before .before .before .before .before .args .s) in
-    sym (l .inv .0 ∙ refused-itself s (l .at) (l .frames) (l .state) (c .before .before .before .record-at .result) (c .before .before .before .record-at .ensures) (c .before .before .before .before .if1 .left) _ (c .before .rec .given .1))
+    sym (l .inv .0 ∙ refused-itself tell s (l .at) (l .frames) (l .state) (c .before .before .before .record-at .result) (c .before .before .before .record-at .ensures) (c .before .before .before .before .if1 .left) _ (c .before .rec .given .1))
 
 pub scan-spec : {M : Type 1} → statement M
 scan-spec =
@@ -133,4 +151,5 @@ scan-spec =
     returns
     returns-2
     returns-3
-    returns-4)
+    returns-4
+    returns-5)

@@ -6,16 +6,16 @@ use Rattle.trace.proofs.take_mark.Reads as reads
 use Rattle.trace.proofs.take_mark.Lts as lts
 use Rattle.supervisor.proofs.mark.Reads as mark-reads
 
--- src/lib.rt:183:13
+-- src/lib.rt:193:13
 mark-requires : tie.Need-mark-requires
 mark-requires c κs = search needs
 
--- src/lib.rt:186:9
+-- src/lib.rt:196:9
 returns : tie.Need-returns
 unfolding markedOf
-returns c = simp (← c .before .before .mark .ensures, c .before .before .before .before .if1 .taken)
+returns c = simp (← c .before .before .mark .ensures, c .before .before .before .before .before .if1 .taken)
 
--- src/lib.rt:178:1
+-- src/lib.rt:187:1
 returns-2 : tie.Need-returns-2
 unfolding markedOf
 returns-2 c = simp (c .if1 .left)

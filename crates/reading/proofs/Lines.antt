@@ -1,0 +1,156 @@
+-- The laws of the loop that takes a piece's records and gathers their lines. Assumes nothing.
+use Prim.Native.Nat.{ℕ, zero, suc, _+_, _-_, _*_, _≤_, _<_}
+use mathlib.Core.Path.{_≡_, refl, _∙_, ap, sym}
+use mathlib.Core.Bool.{Bool, true, false, cond}
+use mathlib.Core.List.{List, [], _∷_, _++_}
+use native.Mathlib.Nat.{add-zero, add-sub-cancel-left}
+use native.Mathlib.Omega.{arith}
+use lib.Dec.{leb}
+use lib.ListN.{length, drop, length-append}
+use Rattle.answer.proofs.Cond.{by-cond}
+use Rattle.answer.specs.Over.{over}
+use Rattle.listing.specs.Text.{fitted, secondLine, lineOf}
+use Rattle.answer.proofs.Overs.{over-nil, over-over, over-length}
+use Rattle.listing.proofs.Overs.{fitted-is, line-length}
+use Rattle.trace.specs.declared.State.{State}
+use Rattle.trace.specs.declared.Run.{Run}
+use Rattle.trace.specs.declared.Stop.the-variants as stop
+use Rattle.trace.specs.Scan.{runOf}
+use Rattle.trace.specs.Stream.{Note, second, change, Scan, before, stopped, scanFrom, after}
+use Rattle.trace.specs.Counts.{Counted}
+use Rattle.trace.proofs.Streams.{agree}
+use Rattle.trace.proofs.Counts.{run-counted, Stands, stands}
+use Rattle.reading.specs.Listing.{lineFor, linesOf}
+use Rattle.reading.specs.Turn.{readingOf, readFrom, gatheredOf, Sound}
+use Rattle.reading.specs.declared.Reading.{Reading}
+use Rattle.reading.specs.declared.Gathered.{Gathered}
+
+-- a scan without what it told
+abbrev ending : Scan → Scan
+ending c = record { told = []; state = c .state; at = c .at; frames = c .frames; refusal = c .refusal; rest = c .rest }
+
+-- what follows a run over a buffer
+abbrev pub onFrom : Bool → ℕ → ℕ → List ℕ → Run → Scan
+onFrom tell base n s r = scanFrom tell (drop (r .at) s) 0 (base + r .at) (n + r .frames) (r .state)
+
+-- what a run has come to, by why it stopped
+module _ (tell : Bool) (base n : ℕ) (st : State) (s : List ℕ) (r : Run) where
+  pub after-closed : r .stop ≡ stop.Closed → after tell base n st s r ≡ before (second (r .state .last) ∷ []) (onFrom tell base n s r)
+  unfolding after
+  after-closed e = rw e
+
+  pub after-told : r .stop ≡ stop.Told → after tell base n st s r ≡ before (change (n + r .frames) st (r .state) ∷ []) (onFrom tell base n s r)
+  unfolding after
+  after-told e = rw e
+
+  pub after-more : r .stop ≡ stop.More → after tell base n st s r ≡ stopped (r .state) (base + r .at) (n + r .frames) 0 (drop (r .at) s)
+  unfolding after
+  after-more e = rw e
+
+  pub after-refused : (number offset : ℕ) → r .stop ≡ stop.Refused number offset → after tell base n st s r ≡ stopped (r .state) (base + offset) (n + r .frames) number (drop offset s)
+  unfolding after
+  after-refused number offset e = rw e
+
+-- no more is put than the line has
+fitted-length : (long at room : ℕ) (v : List ℕ) → length (fitted long at room v) ≤ length v
+unfolding fitted
+fitted-length long at room v = by-cond (λ (l : List ℕ). length l ≤ length v) (leb room (long - at)) (λ _. omega arith) (λ _. omega arith)
+
+-- What holds in the loop: the records before `at` are taken, and the lines of what they told stand in the first `put` bytes of out, which was
+-- d; what is left gives what the whole gives.
+pub record Going (from : Reading) (s d out : List ℕ) (at put : ℕ) (st : State) (frames : ℕ) : Type 0 where
+  pub inside : at ≤ length s
+  pub long : length out ≡ length d
+  pub same : ending (readFrom from s) ≡ ending (scanFrom (from .tell) (drop at s) 0 (from .at + at) frames st)
+  pub text : over d 0 (linesOf (readFrom from s .told)) ≡ over out put (linesOf (scanFrom (from .tell) (drop at s) 0 (from .at + at) frames st .told))
+  pub place : length (linesOf (readFrom from s .told)) ≡ put + length (linesOf (scanFrom (from .tell) (drop at s) 0 (from .at + at) frames st .told))
+  pub room : 4 * put ≤ 422 * at
+  pub counted : Counted (from .at + at) frames st
+
+pub going-start : (from : Reading) (s d : List ℕ) → Sound from → Going from s d d 0 0 (from .state) (from .frames)
+going-start from s d h =
+    let z : from .at + 0 ≡ from .at = add-zero (from .at) in
+    record { inside = omega arith; long = refl; same = rw z; text = rw z; place = rw z (omega arith); room = omega arith; counted = rw z h }
+
+module _ (from : Reading) (s d out : List ℕ) (at put : ℕ) (st : State) (frames : ℕ) (g : Going from s d out at put st frames) (r : Run) (e : r ≡ runOf (from .tell) s at 0 st) where
+  left-is : scanFrom (from .tell) (drop at s) 0 (from .at + at) frames st ≡ after (from .tell) (from .at) frames st s r
+  left-is =
+      ap (λ (n : ℕ). scanFrom (from .tell) (drop at s) 0 (from .at + at) n st) (sym (add-zero frames))
+      ∙ agree s (from .at) frames (from .tell) at 0 st ∙ ap (after (from .tell) (from .at) frames st s) (sym e)
+
+  pub run-stands : Stands s at r
+  run-stands = rw e (stands (from .tell) s at 0 st (g .inside))
+
+  -- the offset and the frames after the run
+  pub run-sound : Counted (from .at + r .at) (frames + r .frames) (r .state)
+  run-sound = rw e (run-counted (from .tell) s (from .at) frames at 0 st (rw (add-zero frames) (g .counted)))
+
+  -- something was told of k bytes at least, and its line put, which has its room
+  pub going-on : (note : Note) (room k p : ℕ) (out₂ : List ℕ) → after (from .tell) (from .at) frames st s r ≡ before (note ∷ []) (onFrom (from .tell) (from .at) frames s r)
+      → at + k ≤ r .at → 4 * room ≤ 422 * k → length s ≤ 4096 → 432216 ≤ length d
+      → p ≡ put + length (fitted (length out) put room (lineFor note)) → p ≤ put + room → out₂ ≡ over out put (fitted (length out) put room (lineFor note)) → length out₂ ≡ length out
+      → Going from s d out₂ (r .at) p (r .state) (frames + r .frames)
+  unfolding linesOf
+  going-on note room k p out₂ told on little short big ep few eo el =
+      let l : List ℕ = lineFor note in
+      let q : Scan = onFrom (from .tell) (from .at) frames s r in
+      let h = run-stands in
+      let roomy : put + room ≤ length out = omega (arith, g .room, g .long, h .inside) in
+      let f : fitted (length out) put room l ≡ l = fitted-is (length out) put room l roomy in
+      let ep' : p ≡ put + length l = ep ∙ ap (λ (v : List ℕ). put + length v) f in
+      let eo' : out₂ ≡ over out put l = eo ∙ ap (over out put) f in
+      let w : scanFrom (from .tell) (drop at s) 0 (from .at + at) frames st ≡ before (note ∷ []) q = left-is ∙ told in
+      record {
+        inside = h .inside;
+        long = el ∙ g .long;
+        same = g .same ∙ ap ending w;
+        text =
+            g .text ∙ ap (λ (c : Scan). over out put (linesOf (c .told))) w
+            ∙ sym (over-over out put p l (linesOf (q .told)) (omega arith) ep')
+            ∙ ap (λ (o : List ℕ). over o p (linesOf (q .told))) (sym eo');
+        place =
+            let x : length (l ++ linesOf (q .told)) ≡ length l + length (linesOf (q .told)) = length-append l (linesOf (q .told)) in
+            omega (arith, g .place ∙ ap (λ (c : Scan). put + length (linesOf (c .told))) w, x, ep');
+        room = omega (arith, g .room, few);
+        counted = run-sound;
+      }
+
+  -- a second was closed
+  pub going-closed : (p : ℕ) (out₂ : List ℕ) → r .stop ≡ stop.Closed → length s ≤ 4096 → 432216 ≤ length d
+      → p ≡ put + length (fitted (length out) put 422 (secondLine (r .state .last))) → out₂ ≡ over out put (fitted (length out) put 422 (secondLine (r .state .last))) → length out₂ ≡ length out
+      → Going from s d out₂ (r .at) p (r .state) (frames + r .frames)
+  unfolding lineFor
+  going-closed p out₂ c short big ep eo el =
+      let few : p ≤ put + 422 = omega (arith, ep, fitted-length (length out) put 422 (secondLine (r .state .last)), line-length 83 (r .state .last), run-sound .twenty) in
+      going-on (second (r .state .last)) 422 4 p out₂ (after-closed (from .tell) (from .at) frames st s r c) (run-stands .further c) (omega arith) short big ep few eo el
+
+  -- a record was told
+  pub going-told : (p : ℕ) (out₂ : List ℕ) → r .stop ≡ stop.Told → length s ≤ 4096 → 432216 ≤ length d
+      → p ≡ put + length (fitted (length out) put 1024 (lineFor (change (frames + r .frames) st (r .state)))) → p ≤ put + 1024
+      → out₂ ≡ over out put (fitted (length out) put 1024 (lineFor (change (frames + r .frames) st (r .state)))) → length out₂ ≡ length out
+      → Going from s d out₂ (r .at) p (r .state) (frames + r .frames)
+  going-told p out₂ c short big ep few eo el =
+      going-on (change (frames + r .frames) st (r .state)) 1024 71 p out₂ (after-told (from .tell) (from .at) frames st s r c) (run-stands .told c) (omega arith) short big ep few eo el
+
+  -- there are no more records, or one was refused
+  pub going-end : (refusal offset : ℕ) → after (from .tell) (from .at) frames st s r ≡ stopped (r .state) (from .at + offset) (frames + r .frames) refusal (drop offset s)
+      → (record { reading = record { tell = from .tell; state = r .state; at = from .at + offset; frames = frames + r .frames }; used = offset; put = put; refusal = refusal } ≡ gatheredOf from s)
+      × (out ≡ over d 0 (linesOf (readFrom from s .told)))
+  unfolding linesOf
+  going-end refusal offset z =
+      let w = left-is ∙ z in
+      let k : ending (readFrom from s) ≡ stopped (r .state) (from .at + offset) (frames + r .frames) refusal (drop offset s) = g .same ∙ ap ending w in
+      let p : length (linesOf (readFrom from s .told)) ≡ put = g .place ∙ ap (λ (c : Scan). put + length (linesOf (c .told))) w ∙ add-zero put in
+      let u : from .at + offset - from .at ≡ offset = add-sub-cancel-left (from .at) offset in (
+        sym
+            (ap (λ (n : ℕ). packed (ending (readFrom from s)) n) p
+            ∙ ap (λ (c : Scan). packed c put) k
+            ∙ ap (λ (n : ℕ). packed-at n) u),
+        over-nil out put ∙ sym (g .text ∙ ap (λ (c : Scan). over out put (linesOf (c .told))) w),
+      )
+    where
+      packed : Scan → ℕ → Gathered
+      packed c n = record { reading = readingOf (from .tell) c; used = c .at - from .at; put = n; refusal = c .refusal }
+
+      packed-at : ℕ → Gathered
+      packed-at n = record { reading = record { tell = from .tell; state = r .state; at = from .at + offset; frames = frames + r .frames }; used = n; put = put; refusal = refusal }

@@ -1,0 +1,51 @@
+-- What the programs print of a trace: from the bytes of the whole input to the bytes of the whole output (document 01, "Trace records and the
+-- listing"). Assumes nothing.
+use Prim.Native.Nat.{ℕ, _+_}
+use mathlib.Core.Bool.{Bool, true, false, cond}
+use mathlib.Core.List.{List, [], _∷_, _++_}
+use lib.Dec.{eqb}
+use Rattle.listing.specs.Text.{secondLine, refusalLine, endLine}
+use Rattle.supervisor.specs.Causes.{reportOf}
+use Rattle.change.specs.declared.Shown.{Shown}
+use Rattle.change.specs.Change.{shownOf, changeLine}
+use Rattle.trace.specs.declared.State.{State}
+use Rattle.trace.specs.Stream.{Note, second, change, Scan, scanOf}
+
+-- what a state shows: the report of what stands (its counts, which are the frame's own, left at 0) and the accepted traces
+abbrev pub shownIn : State → Shown
+shownIn st = shownOf (st .sup) (reportOf (st .standing) 0 0)
+
+-- The line of what is told: of a closed second its figures; of a record what changed with it, under the open second and the frame's number there
+-- and in the trace.
+unfoldable pub lineFor : Note → List ℕ
+lineFor (second figures) = secondLine figures
+lineFor (change total was is) = changeLine (is .sup .seconds + 1) (is .sup .second .frames .0) total (shownIn was) (shownIn is)
+
+unfoldable pub linesOf : List Note → List ℕ
+linesOf [] = []
+linesOf (n ∷ ns) = lineFor n ++ linesOf ns
+
+-- "A refusal prints `R`, its number and the record's byte offset, then E." "E: marks and frames accepted."
+unfoldable pub lastLines : ℕ → ℕ → ℕ → ℕ → List ℕ
+lastLines refusal offset marks frames =
+    cond (eqb refusal 0) (endLine marks frames) (refusalLine refusal offset ++ endLine marks frames)
+
+-- those of a scan: the marks accepted are the seconds closed
+abbrev pub tailOf : Scan → List ℕ
+tailOf c = lastLines (c .refusal) (c .at) (c .state .sup .seconds) (c .frames)
+
+-- the text of what a scan has come to
+abbrev pub textOf : Scan → List ℕ
+textOf c = linesOf (c .told) ++ tailOf c
+
+-- what is printed of a trace
+unfoldable pub printedOf : Bool → List ℕ → List ℕ
+printedOf tell xs = textOf (scanOf tell xs)
+
+-- the listing of a trace: its seconds are told
+abbrev pub listingOf : List ℕ → List ℕ
+listingOf xs = printedOf false xs
+
+-- its explanation: every record is told
+abbrev pub explanationOf : List ℕ → List ℕ
+explanationOf xs = printedOf true xs

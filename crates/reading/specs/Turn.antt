@@ -1,0 +1,90 @@
+-- Reading in pieces: what the program does with the bytes it kept, the piece it read and the news that the input has ended; and the law that
+-- this gives what is printed of the whole. Assumes nothing.
+use Prim.Native.Nat.{ℕ, _+_, _-_, _≤_, _<_}
+use mathlib.Core.Path.{_≡_}
+use mathlib.Core.Bool.{Bool, true, false, cond, not, _||_}
+use mathlib.Core.List.{List, [], _∷_, _++_}
+use lib.ListN.{length, take, drop}
+use lib.Dec.{eqb}
+use Rattle.trace.specs.Scan.{startOf}
+use Rattle.trace.specs.Stream.{Scan, scanFrom, goesOn, joined}
+use Rattle.trace.specs.Counts.{Counted}
+use Rattle.reading.specs.Listing.{linesOf, tailOf, textOf, printedOf}
+use Rattle.reading.specs.declared.Reading.{Reading}
+use Rattle.reading.specs.declared.Gathered.{Gathered}
+use Rattle.reading.specs.declared.Turned.{Turned}
+use Rattle.reading.specs.declared.Refilled.{Refilled}
+
+-- where a scan stands, for the next piece
+abbrev pub readingOf : Bool → Scan → Reading
+readingOf tell c = record { tell = tell; state = c .state; at = c .at; frames = c .frames }
+
+-- what a reading comes to with bytes that follow it, and its scan as the program knows it
+abbrev pub readFrom : Reading → List ℕ → Scan
+readFrom r xs = scanFrom (r .tell) xs 0 (r .at) (r .frames) (r .state)
+
+abbrev pub startReading : Bool → Reading
+startReading tell = record { tell = tell; state = startOf; at = 0; frames = 0 }
+
+-- its offset and its count of frames are within what a trace can hold
+abbrev pub Sound : Reading → Type 0
+Sound r = Counted (r .at) (r .frames) (r .state)
+
+-- the records of s taken, and the lines of what they tell gathered
+abbrev pub gatheredOf : Reading → List ℕ → Gathered
+gatheredOf r s =
+    let c : Scan = readFrom r s in
+    record { reading = readingOf (r .tell) c; used = c .at - r .at; put = length (linesOf (c .told)); refusal = c .refusal }
+
+-- the output ends where the input has ended, and at a refusal that more bytes would not change
+abbrev pub doneOf : Scan → Bool → Bool
+doneOf c ended = ended || not (goesOn (c .refusal))
+
+-- what is written after the bytes s: the lines of what they tell, and at the end the last lines
+unfoldable pub writtenOf : Reading → List ℕ → Bool → List ℕ
+writtenOf r s ended =
+    let c : Scan = readFrom r s in
+    linesOf (c .told) ++ cond (doneOf c ended) (tailOf c) []
+
+-- and what goes on from there
+unfoldable pub turnOf : Reading → List ℕ → Bool → Turned
+turnOf r s ended =
+    let c : Scan = readFrom r s in
+    record { reading = readingOf (r .tell) c; used = c .at - r .at; put = length (writtenOf r s ended); done = doneOf c ended }
+
+-- what is still to be written, xs being all bytes that are not used yet
+abbrev pub toCome : Reading → List ℕ → List ℕ
+toCome r xs = textOf (readFrom r xs)
+
+-- The law of a turn. With more to come, whatever it is: what was to come is what is written now, and then what is to come of the bytes not
+-- used. At the end: what was to come is what is written now.
+pub record TurnLaw (r : Reading) (s : List ℕ) : Type 0 where
+  pub more : (ys : List ℕ) → toCome r (s ++ ys) ≡ writtenOf r s false ++ cond (turnOf r s false .done) [] (toCome (turnOf r s false .reading) (drop (turnOf r s false .used) s ++ ys))
+  pub last : toCome r s ≡ writtenOf r s true
+  pub ends : turnOf r s true .done ≡ true
+
+-- what the program writes, from a reading and kept bytes on, for pieces of input up to its end
+unfoldable pub outputOf : Reading → List ℕ → List (List ℕ) → List ℕ
+outputOf r kept [] = writtenOf r kept true
+outputOf r kept (p ∷ ps) =
+    let t : Turned = turnOf r (kept ++ p) false in
+    writtenOf r (kept ++ p) false ++ cond (t .done) [] (outputOf (t .reading) (drop (t .used) (kept ++ p)) ps)
+
+-- The law of reading in pieces: however the input is cut, what is written is what is printed of the whole.
+abbrev pub InPieces : Bool → List (List ℕ) → Type 0
+InPieces tell ps = outputOf (startReading tell) [] ps ≡ printedOf tell (joined ps)
+
+-- A refill, that found `held` kept bytes at the start of `buf` and left `buf'`: there is a piece, which is what `read` put there (empty at
+-- the end of the input), and the rest is a turn over the kept bytes and that piece, with the bytes that it did not use kept.
+pub record Refill (from : Reading) (held : ℕ) (buf buf' : List ℕ) (r : Refilled) : Type 0 where
+  pub piece : List ℕ
+  pub whole : List ℕ
+  pub is : whole ≡ take held buf ++ piece
+  pub turned : Turned
+  pub turns : turned ≡ turnOf from whole (eqb (length piece) 0)
+  pub reading : r .reading ≡ turned .reading
+  pub kept : take (r .held) buf' ≡ drop (turned .used) whole
+  pub done : turned .done ≡ true → r .ended ≡ true
+  pub sound : Sound (r .reading)
+  pub room : r .ended ≡ false → r .held < 83
+  pub further : r .ended ≡ false → from .at + held < r .reading .at + r .held

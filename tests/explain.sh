@@ -1,0 +1,101 @@
+#!/usr/bin/env bash
+# Runs the program explain on traces and holds what it writes to document 01 and docs/BENCH.md. Status 0 where all is as it should be.
+. "$(dirname "$0")/common.sh"
+[ -x target/bin/ledger ] || rt check ledger || exit 1
+[ -x target/bin/explain ] || rt check explain || exit 1
+program=bin/explain
+
+all() { printf "$1%.0s" {1..64}; } # a trace of 64 times this character
+aligned=$(line 'F 1 2 2 +IF' 'F 1 3 3 +IM') # good frames from the first one on
+
+# nothing, and frames at which nothing changes
+gives 'E 0 0'
+gives 'E 0 0' P
+gives 'E 0 3' P 'Z*3'
+# the worked example
+failing='+SM.SSF +PM.SSF +SM.aTSF +SM.aBDI +PM.aTSF +PM.aBDI'
+gives "$(line "F 1 1 1 +TSF-P $failing +SM.cSSF +PM.cSSF head=1" 'S 1 2 0 2 0 0 0 0 0 0 0 0 0 0 1 0 0 0 1 0' 'E 1 2')" P 'Z:flags=1*2' M
+# both flags, and one of them less
+gives "$(line "F 1 1 1 +TSF-P +OTUk-AIS $failing +SM.cSSF +PM.cSSF head=1" 'F 1 2 2 -TSF-P head=2' 'E 0 2')" P Z:flags=3 Z:flags=2
+# the number of the second, of the frame in it, and of the frame in the trace
+empty='0 0 0 0 0 0 0 0 0 0 0 0 0 0 0 0 0 0 0'
+gives "$(line "S 1 $empty" "S 2 $empty" 'F 3 2 2 +IF' 'S 3 2 2 0 0 0 0 0 0 0 0 0 0 0 0 0 0 0 0 0' 'F 4 1 3 +IM' 'E 3 3')" P M M 'G*2' M G
+
+# a refusal: the frame refused has no line
+gives "$(line 'R 16 0' 'E 0 0')" Z:flags=1
+gives "$(line 'F 1 2 2 +IF' 'R 2 225' 'E 0 2')" P 'G*2' G:flags=4 'G*9'
+gives "$(line 'F 1 2 2 +IF' 'R 14 225' 'E 0 2')" P 'G*2' G:flags=1 -1
+gives "$(line "F 1 62 62 +dLOF +dLOM $failing +cLOF +SM.cSSF +PM.cSSF head=3" 'R 4 28400083' 'E 0 400000')" P 'Z*400000' Z:flags=1
+
+# the printed bytes of a trace: cycles begin at frame 65, and three of them end at 256
+cycle=()
+for byte in 31 32 34 126 127 0 255 92; do cycle+=("G:stti=$byte,ptti=$((byte ^ 1))"); done
+cycle+=('G:stti=33,ptti=48*56')
+section='. "~...\'$(printf '!%.0s' {1..56})
+path='.!#.~..]'$(printf '0%.0s' {1..56})
+gives "$(line "$aligned" "F 1 256 256 SM.trace=\"$section\" PM.trace=\"$path\"" 'E 0 256')" P 'G*64' "${cycle[@]}" "${cycle[@]}" "${cycle[@]}"
+
+# a trace replaced by another, in each layer; the same again is not told
+accepted="F 1 256 256 SM.trace=\"$(all A)\" PM.trace=\"$(all P)\""
+gives "$(line "$aligned" "$accepted" "F 1 448 448 SM.trace=\"$(all B)\"" "F 1 640 640 PM.trace=\"$(all Q)\"" 'E 0 832')" \
+    P 'G:stti=65,ptti=80*256' 'G:stti=66,ptti=80*192' 'G:stti=66,ptti=81*384'
+# one that is not expected: of the section, where the path's is forgotten, and of the path
+raised='+PM.SSF +SM.aTSF +SM.aBDI +PM.aTSF +PM.aBDI'
+gives "$(line "$aligned" "$accepted" "F 1 448 448 +SM.dTIM $raised +SM.cTIM +PM.cSSF head=5 SM.trace=\"$(all B)\" -PM.trace" 'E 0 448')" \
+    P:smode=1,sname=65 'G:stti=65,ptti=80*256' 'G:stti=66,ptti=80*192'
+gives "$(line "$aligned" "$accepted" "F 1 448 448 +PM.dTIM +PM.aTSF +PM.aBDI +PM.cTIM head=9 PM.trace=\"$(all Q)\"" 'E 0 448')" \
+    P:pmode=2,pname=80 'G:stti=65,ptti=80*256' 'G:stti=65,ptti=81*192'
+# forgotten under SSF in both layers, and accepted again: the next cycle begins at 321
+clearing=${failing//+/-}
+gives "$(line "$aligned" "$accepted" "F 1 257 257 +OTUk-AIS $failing +SM.cSSF +PM.cSSF head=2 -SM.trace -PM.trace" \
+    "F 1 258 258 -OTUk-AIS $clearing -SM.cSSF -PM.cSSF head=0" "F 1 512 512 SM.trace=\"$(all A)\" PM.trace=\"$(all P)\"" 'E 0 512')" \
+    P 'G:stti=65,ptti=80*256' G:flags=2,stti=65,ptti=80 'G:stti=65,ptti=80*255'
+# forgotten under dAIS, in the path alone; dOCI and dLCK follow at once
+gives "$(line "$aligned" "$accepted" 'F 1 259 259 +PM.dAIS +PM.aTSF +PM.aBDI +PM.cSSF head=6 -PM.trace' \
+    'F 1 262 262 -PM.dAIS +PM.dOCI +PM.cOCI -PM.cSSF head=7' 'F 1 265 265 -PM.dOCI +PM.dLCK -PM.cOCI +PM.cLCK head=8' \
+    'F 1 268 268 -PM.dLCK -PM.aTSF -PM.aBDI -PM.cLCK head=0' 'E 0 268')" P 'G:stti=65,ptti=80*256' 'G:pst=7*3' 'G:pst=6*3' 'G:pst=5*3' 'G:pst=1*3'
+
+# dDEG is told with the frame after the mark, here in each layer after seconds of its own
+bad='3 3 0 0 0 0 0 0 0 0 0 3 0 0 0 3 0 0 0'
+clear='1 1 0 0 0 0 0 0 0 0 0 0 0 0 0 0 0 0 0'
+gives "$(line "$aligned" "S 1 $bad" "S 2 $bad" 'F 3 1 7 +PM.dDEG +PM.aTSD +PM.cDEG' "S 3 $bad" 'F 4 1 10 +SM.dDEG +SM.aTSD +SM.cDEG' "S 4 $clear" \
+    "S 5 $empty" 'F 6 1 11 -PM.dDEG -PM.aTSD -PM.cDEG' "S 6 $clear" 'F 7 1 12 -SM.dDEG -SM.aTSD -SM.cDEG' 'E 6 12')" \
+    P:sdegm=3 'G:sm=1,pm=8*3' M 'G:sm=8,pm=1*3' M 'G:sm=1,pm=1*3' M G M M G M G
+# in both at once, with what that frame brings
+gives "$(line "$aligned" "S 1 $bad" "S 2 $bad" \
+    "F 3 1 7 +TSF-P +SM.SSF +SM.dDEG +PM.SSF +PM.dDEG +SM.aTSF +SM.aTSD +SM.aBDI +PM.aTSF +PM.aTSD +PM.aBDI +SM.cSSF +PM.cSSF head=1" \
+    "F 3 2 8 -TSF-P $clearing +SM.cDEG -SM.cSSF +PM.cDEG -PM.cSSF head=0" 'E 2 8')" P 'G:sm=1,pm=1*3' M 'G:sm=1,pm=1*3' M G:flags=1 G
+# raised and cleared again with no frame between: nothing changed
+gives "$(line "$aligned" "S 1 $bad" "S 2 $bad" "S 3 $empty" "S 4 $empty" 'E 4 7')" P 'G:sm=1,pm=1*3' M 'G:sm=1,pm=1*3' M M M G
+
+# BDI in both layers; IAE and BIAE
+gives "$(line "$aligned" 'F 1 5 5 +SM.dBDI +PM.dBDI +SM.cBDI +PM.cBDI' 'F 1 10 10 -SM.dBDI -PM.dBDI -SM.cBDI -PM.cBDI' 'E 0 10')" \
+    P 'G:sst=8,pst=8*5' 'G*5'
+gives "$(line 'F 1 2 2 +IF' 'F 1 3 3 +IM +SM.dBIAE' 'F 1 5 5 +SM.dIAE +SM.aBIAE' 'F 1 8 8 -SM.dBIAE' 'F 1 10 10 -SM.dIAE -SM.aBIAE' 'E 0 10')" \
+    P 'G:sst=0xb4*5' 'G*5'
+# MFAS sticks: out of multiframe at the fifth other one, dLOM 61 frames later, and over at the second right one
+gives "$(line "$aligned" 'F 1 8 8 -IM' "F 1 69 69 +dLOM $failing +cLOM +SM.cSSF +PM.cSSF head=4" \
+    "F 1 75 75 +IM -dLOM $clearing -cLOM -SM.cSSF -PM.cSSF head=0" 'E 0 75')" P 'G*3' 'G:mfas=200*70' 'G*2'
+
+# the same from a pipe, in pieces of 7 bytes, and an input without end
+"$work/trace" P 'G:stti=65,ptti=80*300' M 'G:flags=2*3' > "$work/in"
+name='pieces of 7 bytes'
+text=$(line "$aligned" "$accepted" 'S 1 300 300 0 0 0 0 0 0 0 0 0 0 0 0 0 0 0 0 0' \
+    "F 2 1 301 +OTUk-AIS $failing +SM.cSSF +PM.cSSF head=2 -SM.trace -PM.trace" 'E 1 303')
+said "$text" "$(dd bs=7 if="$work/in" 2> /dev/null | timeout 120 bin/explain)"
+name='zeros without end'
+said "$(line 'R 15 0' 'E 0 0')" "$(timeout 60 bin/explain < /dev/zero)"
+
+# the scenarios: the listing, what stands among its lines, and the explanation where it is short enough to be kept
+for scenario in examples/scenarios/*.txt; do
+    name=$scenario
+    listing=$(cat "${scenario%.txt}.listing")
+    explained=${scenario%.txt}.explained
+    bench/scenario "$scenario" > "$work/in" || exit 1
+    said "$listing" "$(timeout 120 bin/ledger < "$work/in")"
+    timeout 120 bin/explain < "$work/in" > "$work/out"
+    said "$listing" "$(grep -v '^F ' "$work/out")"
+    [ ! -e "$explained" ] || said "$(cat "$explained")" "$(cat "$work/out")"
+done
+
+counted
