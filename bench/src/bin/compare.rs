@@ -286,9 +286,6 @@ struct Worker {
     thread: std::thread::JoinHandle<()>,
 }
 
-/// Of so many generated traces one is explained too, the first after trace 0. All of them, at what a listing costs under an emulator,
-/// would take half the time again.
-const EXPLAINED: u64 = 5;
 /// After so many differences no more is compared.
 const MANY: u64 = 10;
 static DIFFERENCES: AtomicU64 = AtomicU64::new(0);
@@ -499,7 +496,7 @@ fn main() {
         let whose = format!("seed {seed} trace {index} ({})", g.about);
         // The full second's texts are a directed case.
         let listing = if index == 0 { String::new() } else { reader::list(&g.bytes) };
-        let explanation = if index % EXPLAINED == 1 { programs.explanation(&g.bytes) } else { String::new() };
+        let explanation = if index == 0 { String::new() } else { programs.explanation(&g.bytes) };
         explanations += u64::from(!explanation.is_empty());
         if let Some(number) = listing.lines().find_map(|l| l.strip_prefix("R ")?.split(' ').next()?.parse::<usize>().ok()) {
             cover.refusals[number] += 1;
