@@ -1,12 +1,13 @@
-//! Random and mutated input to the programs in LEDGERS: each must print what the second program prints.
+//! Random and mutated input to the programs in LEDGERS and EXPLAINS: each must print what the second program prints.
 //!
 //!     soak --seed N --inputs M
 
+use second::explain::explain;
 use second::generate;
 use second::random::Random;
 use second::reader::{self, Trace};
 use std::io::{Read, Write};
-use std::process::{Command, Stdio};
+use std::process::{Command, ExitStatus, Stdio};
 
 /// Some records cut out of a generated trace, then changed in some bytes; or noise.
 fn input(rng: &mut Random, from: &[u8]) -> Vec<u8> {
@@ -53,6 +54,24 @@ fn input(rng: &mut Random, from: &[u8]) -> Vec<u8> {
     bytes
 }
 
+/// The paths in a list with colons between.
+fn paths(list: &str) -> impl Iterator<Item = &str> {
+    list.split(':').filter(|p| !p.is_empty())
+}
+
+/// What a program prints of an input, and how it ends.
+fn run(path: &str, bytes: &[u8]) -> (Vec<u8>, ExitStatus) {
+    let mut child = Command::new(path).stdin(Stdio::piped()).stdout(Stdio::piped()).spawn().expect("it starts");
+    let mut stdin = child.stdin.take().unwrap();
+    let sent = bytes.to_vec();
+    let feeder = std::thread::spawn(move || drop(stdin.write_all(&sent)));
+    let mut got = Vec::new();
+    child.stdout.take().unwrap().read_to_end(&mut got).unwrap();
+    let status = child.wait().unwrap();
+    feeder.join().unwrap();
+    (got, status)
+}
+
 fn main() {
     let (mut seed, mut inputs) = (1u64, 500u64);
     let mut args = std::env::args().skip(1);
@@ -67,7 +86,8 @@ fn main() {
             }
         }
     }
-    let programs = std::env::var("LEDGERS").unwrap_or_default();
+    let ledgers = std::env::var("LEDGERS").unwrap_or_default();
+    let explains = std::env::var("EXPLAINS").unwrap_or_default();
     let mut refusals = [0u64; 18];
     let mut rng = Random::new(seed);
     let mut from = Vec::new();
@@ -83,15 +103,9 @@ fn main() {
         let expected = reader::list(&bytes);
         let refused = expected.lines().find_map(|l| l.strip_prefix("R ")?.split(' ').next()?.parse::<usize>().ok());
         refusals[refused.unwrap_or(0)] += 1;
-        for path in programs.split(':').filter(|p| !p.is_empty()) {
-            let mut child = Command::new(path).stdin(Stdio::piped()).stdout(Stdio::piped()).spawn().expect("it starts");
-            let mut stdin = child.stdin.take().unwrap();
-            let sent = bytes.clone();
-            let feeder = std::thread::spawn(move || drop(stdin.write_all(&sent)));
-            let mut got = Vec::new();
-            child.stdout.take().unwrap().read_to_end(&mut got).unwrap();
-            let status = child.wait().unwrap();
-            feeder.join().unwrap();
+        let explained = if explains.is_empty() { String::new() } else { explain(&bytes) };
+        for (path, expected) in paths(&ledgers).map(|p| (p, &expected)).chain(paths(&explains).map(|p| (p, &explained))) {
+            let (got, status) = run(path, &bytes);
             if got != expected.as_bytes() || status.code().is_none() {
                 println!("soak: seed {seed} input {index} ({} bytes): {path}: {status}", bytes.len());
                 println!("printed {:?}\nsecond  {expected:?}", String::from_utf8_lossy(&got));
@@ -99,5 +113,5 @@ fn main() {
             }
         }
     }
-    println!("soak: seed {seed}, {inputs} inputs to the program; ended well and with refusals 1 to 17: {refusals:?}");
+    println!("soak: seed {seed}, {inputs} inputs to each program; ended well and with refusals 1 to 17: {refusals:?}");
 }
