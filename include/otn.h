@@ -13,7 +13,7 @@
    as bytes.
 
    Stack: no call takes more than OTN_STACK_BYTES. Measured by tests/card.c on x86-64, which fails where one does: otn_step 3,704
-   bytes, otn_mark 2,552, otn_trace 1,464, otn_fresh 1,992. */
+   bytes, otn_mark 2,552, otn_trace 1,464, otn_fresh 1,960. */
 #ifndef OTN_H
 #define OTN_H
 

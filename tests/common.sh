@@ -16,13 +16,15 @@ said() { # what is to be, what is
     fi
 }
 
-# gives TEXT WORDS..: what $program writes of the trace of these words, whole
+# printed WORDS..: what $program writes of the trace of these words
+printed() {
+    "$work/trace" "$@" > "$work/in" && timeout 120 "$program" < "$work/in"
+}
+
+# gives TEXT WORDS..: it writes this, whole
 gives() {
-    local text=$1
-    shift
-    name="$*"
-    "$work/trace" "$@" > "$work/in" || exit 1
-    said "$text" "$(timeout 120 "$program" < "$work/in")"
+    name="${*:2}"
+    said "$1" "$(printed "${@:2}")"
 }
 
 line() { printf '%s\n' "$@"; }

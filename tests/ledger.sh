@@ -6,11 +6,8 @@ program=bin/ledger
 
 # ends TEXT WORDS..: its last two lines
 ends() {
-    local text=$1
-    shift
-    name="$*"
-    "$work/trace" "$@" > "$work/in" || exit 1
-    said "$text" "$(timeout 120 "$program" < "$work/in" | tail -n 2)"
+    name="${*:2}"
+    said "$1" "$(printed "${@:2}" | tail -n 2)"
 }
 
 # the worked example and nothing at all

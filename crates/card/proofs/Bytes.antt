@@ -64,10 +64,8 @@ unfolding bytesOf
 length-bytes s a = length-joined (piecesOf s) (sized s a)
 
 -- read from the bytes under their length
-pub load-all : (b : List ℕ) (n : Numbers) (s : Supervisor) → length b ≡ 736 → n ≡ numbersIn (take 736 b) → s ≡ supervisorOf (take 736 b) n
-    → s ≡ loadOf b
-unfolding loadOf
-load-all b n s h e f = f ∙ ap (supervisorOf (take 736 b)) e ∙ ap (λ (x : List ℕ). supervisorOf x (numbersIn x)) (take-all 736 b (omega arith))
+pub load-all : (b : List ℕ) (s : Supervisor) → length b ≡ 736 → s ≡ loadOf (take 736 b) → s ≡ loadOf b
+load-all b s h e = e ∙ ap loadOf (take-all 736 b (omega arith))
 
 pub stored : (s : Supervisor) (n : Numbers) (b0 b1 b2 b3 b4 : List ℕ) → n ≡ numbersOf s
     → b1 ≡ lays b0 0 (numberPieces n) → b2 ≡ lays b1 288 (tracePieces (s .layers .section .layer))

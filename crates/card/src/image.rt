@@ -19,9 +19,8 @@ use supervisor::Settings;
 use supervisor::Supervisor;
 ghost use mathlib.Core.Path.{_≡_};
 ghost use Prim.Native.Nat.{_≤_};
-ghost use lib.ListN.{length};
 ghost use Rattle.codec.specs.Pieces.{lays};
-ghost use Rattle.card.specs.Image.{settingsWords, alignWords, sectionWords, pathWords, secondWords, headsWords, numbersOf, settingsOf, alignOf, layerOf, sectionOf, pathOf, secondOf, numbersIn, ranged, sectionIn, pathIn, settingsIn, supervisorOf, loadOf, sound, numberPieces, bytesOf, TracesLaid, NamesLaid};
+ghost use Rattle.card.specs.Image.{settingsWords, alignWords, sectionWords, pathWords, secondWords, headsWords, numbersOf, settingsOf, alignOf, layerOf, sectionOf, pathOf, secondOf, numbersIn, ranged, sectionIn, pathIn, settingsIn, supervisorOf, loadOf, sound, numberPieces, TracesLaid, NamesLaid, Stored};
 
 // The numbers, in segments of twelve words.
 pub struct Numbers {
@@ -435,14 +434,12 @@ fn supervisor_of(b: &[u8], n: Numbers) -> Supervisor
     }
 }
 
-// The supervisor in 736 lent bytes. They are lent on under that length, so that what is read of them need not be tested again.
-pub fn load(b: &[u8]) -> Supervisor
-    requires { ⌜ length (now b) ≡ 736 ⌝ }
+// The supervisor in lent bytes.
+pub fn supervisor_in(b: &[u8]) -> Supervisor
     ensures { λ r. ⌜ r ≡ loadOf (now (b .entry)) ⌝ }
 {
-    let all = &b[0..736];
-    let n = numbers_in(all);
-    supervisor_of(all, n)
+    let n = numbers_in(b);
+    supervisor_of(b, n)
 }
 
 fn store_numbers(b: &mut [u8], n: Numbers)
@@ -484,18 +481,16 @@ fn store_names(b: &mut [u8], s: Settings)
     codec::lay_names(b, 704, pnames);
 }
 
-// The supervisor's pieces laid over 736 bytes, lent on under that length as in `load`: they become its image.
-pub fn store(b: &mut [u8], s: Supervisor)
-    requires { ⌜ length (now b) ≡ 736 ⌝ }
-    ensures { λ _. ⌜ now (b .exit) ≡ bytesOf s ⌝ }
+// The supervisor's pieces laid over lent bytes: where they are 736, they become its image.
+pub fn lay(b: &mut [u8], s: Supervisor)
+    ensures { λ _. ⌜ Stored (now (b .entry)) s (now (b .exit)) ⌝ }
 {
-    let all = &mut b[0..736];
     let n = numbers_of(s);
     let section = s.layers.section.layer;
     let path = s.layers.path.layer;
     let settings = s.settings;
-    store_numbers(all, n);
-    store_traces(all, 288, section);
-    store_traces(all, 480, path);
-    store_names(all, settings);
+    store_numbers(b, n);
+    store_traces(b, 288, section);
+    store_traces(b, 480, path);
+    store_names(b, settings);
 }

@@ -4,13 +4,32 @@ mod report;
 
 use answer::checked;
 use supervisor::Request;
+use supervisor::Supervisor;
 ghost use mathlib.Core.Path.{_≡_};
+ghost use lib.ListN.{length};
+ghost use Rattle.card.specs.Image.{loadOf, bytesOf};
 ghost use Rattle.card.specs.Calls.{provisionBy, FreshCall, StepCall, MarkCall, TraceCall};
 
 fn wide(x: u8) -> u64
     ensures { λ r. ⌜ r ≡ x ⌝ }
 {
     x as u64
+}
+
+// The supervisor in 736 lent bytes. They are lent on under that length, so that what is read of them need not be tested again.
+fn load(b: &[u8]) -> Supervisor
+    requires { ⌜ length (now b) ≡ 736 ⌝ }
+    ensures { λ r. ⌜ r ≡ loadOf (now (b .entry)) ⌝ }
+{
+    image::supervisor_in(&b[0..736])
+}
+
+// 736 lent bytes, lent on under that length, become the image of a supervisor.
+fn store(b: &mut [u8], s: Supervisor)
+    requires { ⌜ length (now b) ≡ 736 ⌝ }
+    ensures { λ _. ⌜ now (b .exit) ≡ bytesOf s ⌝ }
+{
+    image::lay(&mut b[0..736], s);
 }
 
 // A fresh supervisor under a provisioning.
@@ -47,7 +66,7 @@ pub extern "C" fn otn_fresh(
         let p = supervisor::provision(k, section, path, smnames, pmnames);
         if p.refusal == 0 {
             let s = p.supervisor;
-            image::store(sup, s);
+            store(sup, s);
             return 0;
         }
         return wide(p.refusal);
@@ -61,12 +80,12 @@ pub extern "C" fn otn_step(sup: &mut [u8], overhead: &[u8], flags: u8, sm: u8, p
     ensures { λ r. ⌜ StepCall (now (sup .entry)) (now (overhead .entry)) flags sm pm r (now (sup .exit)) ⌝ }
 {
     if image::is_sound(sup) {
-        let s = image::load(sup);
+        let s = load(sup);
         let o = supervisor::step(s, overhead, flags, sm, pm);
         if o.refusal == 0 {
             let next = o.supervisor;
             let report = o.report;
-            image::store(sup, next);
+            store(sup, next);
             return report::report_word(report);
         }
         return wide(o.refusal);
@@ -80,13 +99,13 @@ pub extern "C" fn otn_mark(sup: &mut [u8], out: &mut [u8]) -> u64
     ensures { λ r. ⌜ MarkCall (now (sup .entry)) (now (out .entry)) r (now (sup .exit)) (now (out .exit)) ⌝ }
 {
     if image::is_sound(sup) {
-        let s = image::load(sup);
+        let s = load(sup);
         let m = supervisor::mark(s);
         if m.refusal == 0 {
             let next = m.supervisor;
             let figures = m.figures;
             let bytes = codec::record_of(figures);
-            image::store(sup, next);
+            store(sup, next);
             codec::pour(out, &bytes);
             return 0;
         }
@@ -101,7 +120,7 @@ pub extern "C" fn otn_trace(sup: &[u8], layer: u8, out: &mut [u8]) -> u64
     ensures { λ r. ⌜ TraceCall (now (sup .entry)) layer (now (out .entry)) r (now (out .exit)) ⌝ }
 {
     if image::is_sound(sup) {
-        let s = image::load(sup);
+        let s = load(sup);
         let t = supervisor::trace_of(s, layer);
         let twelve = checked(12, out.len() == 64, t.refusal);
         let refusal = checked(11, layer <= 1, twelve);

@@ -6,7 +6,7 @@ use Rattle.card.proofs.otn_fresh.Statement.{statement}
 use Rattle.card.proofs.otn_fresh.Tie as tie
 use Rattle.card.proofs.otn_fresh.Reads as reads
 use Rattle.card.proofs.otn_fresh.Lts as lts
-use Rattle.card.proofs.image.store.Reads as store-reads
+use Rattle.card.proofs.store.Reads as store-reads
 use Rattle.card.proofs.wide.Reads as wide-reads
 use Rattle.supervisor.proofs.provision.Reads as provision-reads
 

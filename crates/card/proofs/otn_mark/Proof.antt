@@ -7,8 +7,8 @@ use Rattle.card.proofs.otn_mark.Tie as tie
 use Rattle.card.proofs.otn_mark.Reads as reads
 use Rattle.card.proofs.otn_mark.Lts as lts
 use Rattle.card.proofs.image.is_sound.Reads as is-sound-reads
-use Rattle.card.proofs.image.load.Reads as load-reads
-use Rattle.card.proofs.image.store.Reads as store-reads
+use Rattle.card.proofs.load.Reads as load-reads
+use Rattle.card.proofs.store.Reads as store-reads
 use Rattle.card.proofs.wide.Reads as wide-reads
 use Rattle.codec.proofs.pour.Reads as pour-reads
 use Rattle.codec.proofs.record_of.Reads as record-of-reads

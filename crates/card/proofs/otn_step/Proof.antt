@@ -7,8 +7,8 @@ use Rattle.card.proofs.otn_step.Tie as tie
 use Rattle.card.proofs.otn_step.Reads as reads
 use Rattle.card.proofs.otn_step.Lts as lts
 use Rattle.card.proofs.image.is_sound.Reads as is-sound-reads
-use Rattle.card.proofs.image.load.Reads as load-reads
-use Rattle.card.proofs.image.store.Reads as store-reads
+use Rattle.card.proofs.load.Reads as load-reads
+use Rattle.card.proofs.store.Reads as store-reads
 use Rattle.card.proofs.report.report_word.Reads as report-word-reads
 use Rattle.card.proofs.wide.Reads as wide-reads
 use Rattle.supervisor.proofs.step.Reads as step-reads

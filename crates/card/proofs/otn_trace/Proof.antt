@@ -9,7 +9,7 @@ use Rattle.card.proofs.otn_trace.Reads as reads
 use Rattle.card.proofs.otn_trace.Lts as lts
 use Rattle.answer.proofs.checked.Reads as checked-reads
 use Rattle.card.proofs.image.is_sound.Reads as is-sound-reads
-use Rattle.card.proofs.image.load.Reads as load-reads
+use Rattle.card.proofs.load.Reads as load-reads
 use Rattle.card.proofs.wide.Reads as wide-reads
 use Rattle.codec.proofs.pour.Reads as pour-reads
 use Rattle.supervisor.proofs.trace_of.Reads as trace-of-reads
