@@ -1,20 +1,17 @@
 -- dLOF and dLOM stand exactly where their statements without counters say. Assumes nothing.
 use mathlib.Core.Path.{_≡_, refl, ap, sym, _∙_, subst⁻¹}
 use mathlib.Core.Logic.{_↔_}
-use mathlib.Core.Bool.{Bool, true, false, cond, Bool·beq}
-use mathlib.Core.List.{List, [], _∷_, _++_, tail-eq-of-cons-eq, nil≢cons}
-use Prim.Native.Nat.{ℕ, zero, suc, _+_, _≤_, _<_, zero-le, suc-le-suc, min}
+use mathlib.Core.Bool.{Bool, true, false, cond}
+use mathlib.Core.List.{List, [], _∷_}
+use Prim.Native.Nat.{ℕ, suc, _+_, _≤_, _<_, min}
 use native.Mathlib.Nat.{zero-add}
 use native.Mathlib.Omega.{arith}
-use borrow.Author.Tests.{ltb-true, ltb-false, eqb-true, eqb-false, eq-eqb, ne-eqb, le-leb, lt-leb, leb-true, leb-false}
+use borrow.Author.Tests.{ltb-true, ltb-false, eqb-true, eqb-false, eq-eqb, ne-eqb, leb-true, leb-false}
 use lib.Dec.{leb, eqb, ltb}
-use lib.ListN.{drop, replicate}
+use lib.ListN.{drop}
 use Rattle.answer.proofs.Cond.{by-cond}
 use Rattle.filter.specs.Filter.{upOf}
-use Rattle.filter.specs.Since.{NoRun}
-use Rattle.filter.proofs.Bounds.{up-plain, up-most}
-use Rattle.filter.proofs.Since.{lead, lead-run, run-lead}
-use Rattle.alignment.proofs.Runs.{no-nil}
+use Rattle.filter.proofs.Runs.{lead, lead-run, run-lead, lead-mono, no-nil, no-more}
 use Rattle.alignment.specs.declared.Lof.{Lof}
 use Rattle.alignment.specs.Alignment.{lofOf, lomOf}
 use Rattle.alignment.specs.Since.{oofs, Reset, start, cleared, Cut, lofAfter, LofIs, lomAfter, AllOut}
@@ -27,29 +24,15 @@ up-min n z =
     (λ e. let h : min n z < n = ltb-true _ _ e in omega arith)
     (λ e. let h : n ≤ min n z = ltb-false _ _ e in omega arith)
 
-lead-mono : (b : Bool) (c r : List Bool) → lead b c ≤ lead b (c ++ r)
-lead-mono b [] r = zero-le
-lead-mono true (true ∷ c) r = suc-le-suc (lead-mono true c r)
-lead-mono true (false ∷ c) r = zero-le
-lead-mono false (true ∷ c) r = zero-le
-lead-mono false (false ∷ c) r = suc-le-suc (lead-mono false c r)
-
 -- one more frame that completes no n in a row in IF
-longer : (n : ℕ) (x : Bool) (l : List Bool) → lead true (x ∷ l) < n → (k : Cut n l) → NoRun n true (x ∷ k .since)
-longer n x l h k [] e p =
-    let a : n ≤ lead true (x ∷ k .since) = subst⁻¹ (λ (m : List Bool). n ≤ lead true m) p (run-lead n true e) in
-    let b : lead true (x ∷ k .since) ≤ lead true (x ∷ (k .since ++ k .rest)) = lead-mono true (x ∷ k .since) (k .rest) in
-    let c : lead true (x ∷ l) ≡ lead true (x ∷ (k .since ++ k .rest)) = ap (λ (m : List Bool). lead true (x ∷ m)) (k .is) in
-    omega arith
-longer n x l h k (y ∷ d) e p = k .none d e (tail-eq-of-cons-eq p)
-
 cut-more : (n : ℕ) (x : Bool) (l : List Bool) → lead true (x ∷ l) < n → Cut n l → Cut n (x ∷ l)
 cut-more n x l h k = record {
   since = x ∷ k .since;
   rest = k .rest;
   is = ap (λ (m : List Bool). x ∷ m) (k .is);
   reset = k .reset;
-  none = longer n x l h k;
+  none = no-more n true x (k .since)
+      (omega (arith, lead-mono true (x ∷ k .since) (k .rest), ap (λ (m : List Bool). lead true (x ∷ m)) (k .is))) (k .none);
 }
 
 cut-here : (n : ℕ) (l : List Bool) → suc n ≤ lead true l → Cut (suc n) l
@@ -122,5 +105,5 @@ lom-run n (false ∷ l) = rw (lom-run n l) (omega (arith, up-min n (lead false l
 pub lom-is : (n : ℕ) (l : List Bool) → (lomAfter n l ≡ n) ↔ AllOut n l
 lom-is n l = (
   λ e. record { before = drop n l; is = lead-run n false l (omega (arith, lom-run n l)) },
-  λ o. let h : n ≤ lead false l = subst⁻¹ (λ (m : List Bool). n ≤ lead false m) (o .is) (run-lead n false (o .before)) in omega (arith, lom-run n l),
+  λ o. omega (arith, run-lead n false l (o .before) (o .is), lom-run n l),
 )

@@ -2,7 +2,6 @@
 use mathlib.Core.Path.{_≡_}
 use mathlib.Core.Bool.{Bool, true, false, _&&_}
 use mathlib.Core.List.{List, [], _∷_, _++_, map}
-use Prim.Native.Nat.{ℕ}
 use lib.ListN.{replicate}
 use Rattle.filter.specs.Since.{NoRun}
 use Rattle.alignment.specs.declared.Framing.{Framing}

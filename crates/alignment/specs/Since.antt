@@ -1,7 +1,6 @@
 -- dLOF and dLOM, said without their counters. A list has the latest frame first: true where the frame left IF (for dLOF) or IM (for dLOM).
 -- Assumes nothing.
 use mathlib.Core.Path.{_≡_}
-use mathlib.Core.Logic.{_↔_}
 use mathlib.Core.Bool.{Bool, true, false, cond}
 use mathlib.Core.List.{List, [], _∷_, _++_}
 use Prim.Native.Nat.{ℕ, _+_}

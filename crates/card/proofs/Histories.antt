@@ -2,29 +2,29 @@
 use mathlib.Core.Path.{_≡_, refl, sym, ap, _∙_}
 use mathlib.Core.Bool.{Bool, true, false, cond}
 use mathlib.Core.List.{List, [], _∷_}
-use Prim.Native.Nat.{ℕ, _≤_, _<_}
-use native.Mathlib.Omega.{arith}
+use Prim.Native.Nat.{ℕ, _≤_}
 use lib.Dec.{eqb, leb, ltb}
 use lib.ListN.{length}
-use borrow.Author.Tests.{ltb-true, eq-eqb, eqb-true}
-use Rattle.answer.specs.Checks.{check, firstOf}
+use borrow.Author.Tests.{ltb-true}
+use Rattle.answer.specs.Checks.{check}
 use Rattle.answer.proofs.Cond.{by-cond, cond-under}
 use Rattle.answer.proofs.Checks.{first-low, passed}
 use Rattle.overhead.specs.Overhead.{overheadOf}
-use Rattle.supervisor.specs.Supervisor.{stepChecks, stepRefusal, stepOf, frameOf, nextSecond, markOf, layerAt}
-use Rattle.supervisor.specs.History.{Frame, Event, frame, mark, refusalOf, Call, does, reads, after, accepted, handed, handedBack}
-use Rattle.supervisor.specs.Settings.{settingsRefusal}
-use Rattle.supervisor.specs.Ranges.{Ranged}
+use Rattle.supervisor.specs.Supervisor.{stepChecks, stepRefusal, stepOf, markOf, layerAt}
+use Rattle.history.specs.History.{Frame, frame, mark, refusalOf, Call, does, reads, after, accepted, handed, handedBack}
+use Rattle.settings.specs.Settings.{settingsRefusal}
+use Rattle.history.specs.Ranges.{Ranged}
 use Rattle.supervisor.specs.declared.Supervisor.{Supervisor}
 use Rattle.supervisor.specs.declared.Stepped.{Stepped}
 use Rattle.supervisor.specs.declared.Marked.{Marked}
-use Rattle.supervisor.proofs.Ranges.{step-ranged, mark-ranged, fresh-ranged, provisioned-in}
-use Rattle.supervisor.proofs.History.{handed-is}
-use Rattle.card.specs.Image.{loadOf, bytesOf}
+use Rattle.history.proofs.Ranges.{step-ranged, mark-ranged, fresh-ranged}
+use Rattle.settings.proofs.Ranges.{provisioned-in}
+use Rattle.history.proofs.History.{handed-is}
+use Rattle.image.specs.Image.{bytesOf}
 use Rattle.card.specs.Calls.{Provision, freshChecks, freshRefusal, freshBy, freshSup, callRefusal, callAnswer, callSup, markRefusal, markSup, markRecord, traceRefused, traceOut}
 use Rattle.card.specs.History.{refusedBy, answeredBy, filledBy, bytesBy, bytesAfter, refusedOn, answerOn, fillOn, AllBytes, OnBytes}
 use Rattle.card.proofs.Calls.{call-number, mark-by}
-use Rattle.card.proofs.Ranges.{round-trip}
+use Rattle.image.proofs.Ranges.{round-trip}
 
 again : {A : Type 0} (t : Bool) (x y : A) → cond (eqb (cond t 0 4) 0) x y ≡ cond t x y
 again true x y = refl

@@ -1,6 +1,4 @@
-pub mod Bytes
 pub mod Calls
-pub mod Ranges
-pub mod Unique
 pub mod Histories
-pub mod Fields
+pub mod Refuted
+pub mod Unique

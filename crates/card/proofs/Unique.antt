@@ -1,6 +1,6 @@
 -- No second answer and no second content of lent memory meets the contract of a call, and no call asks anything of its caller.
 -- Assumes nothing.
-use mathlib.Core.Path.{_≡_, sym, _∙_}
+use mathlib.Core.Path.{sym, _∙_}
 use mathlib.Core.List.{List}
 use Prim.Native.Nat.{ℕ}
 use contract.Lifetimes.{Lfts}

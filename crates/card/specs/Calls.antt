@@ -1,22 +1,22 @@
 -- What each call from C answers, and what the lent bytes hold after it. "Checked in number order, after 17": each call's tests are a
 -- list, 17 first. "A refusal answers its number and nothing else; supervisor and lent buffers keep their contents." Assumes nothing.
 use mathlib.Core.Path.{_≡_}
-use mathlib.Core.Bool.{Bool, cond}
+use mathlib.Core.Bool.{cond}
 use mathlib.Core.List.{List, [], _∷_}
 use Prim.Native.Nat.{ℕ, _+_}
 use lib.Dec.{eqb, leb, ltb}
 use lib.ListN.{length}
 use Rattle.answer.specs.Checks.{Check, check, firstOf}
-use Rattle.codec.specs.Words.{flat}
+use Rattle.words.specs.Words.{flat}
 use Rattle.codec.specs.Over.{poured}
-use Rattle.supervisor.specs.Causes.{reportOf}
-use Rattle.supervisor.specs.Second.{closedOf, figuresOf}
-use Rattle.supervisor.specs.Settings.{settingsChecks, optionsOf}
+use Rattle.causes.specs.Causes.{reportOf}
+use Rattle.second.specs.Second.{closedOf, figuresOf}
+use Rattle.settings.specs.Settings.{settingsChecks, optionsOf}
 use Rattle.supervisor.specs.Supervisor.{freshOf, stepChecks, standsAfter, frameOf, nextSecond, layerAt}
-use Rattle.supervisor.specs.declared.settings.Request.{Request}
+use Rattle.settings.specs.declared.Request.{Request}
 use Rattle.supervisor.specs.declared.Supervisor.{Supervisor}
-use Rattle.card.specs.Image.{sound, loadOf, bytesOf}
-use Rattle.card.specs.Report.{reportWord}
+use Rattle.image.specs.Image.{sound, loadOf, bytesOf}
+use Rattle.word.specs.Report.{reportWord}
 
 -- by a refusal's number: what is made where it is 0, what is kept where it is not
 abbrev pub unless : {A : Type 0} → ℕ → A → A → A

@@ -1,21 +1,20 @@
 -- A history of calls from C on one supervisor's bytes: frames, marks and readings of a trace, as the supervisor's histories have them,
 -- with any buffers. Assumes nothing.
 use mathlib.Core.Path.{_≡_}
-use mathlib.Core.Bool.{Bool, true, cond}
 use mathlib.Core.List.{List, [], _∷_}
 use Prim.Native.Nat.{ℕ, _≤_}
 use lib.Dec.{eqb, leb}
 use lib.ListN.{length}
 use Rattle.answer.specs.Checks.{check, firstOf}
 use Rattle.overhead.specs.Overhead.{overheadOf}
-use Rattle.codec.specs.Words.{flat}
+use Rattle.words.specs.Words.{flat}
 use Rattle.codec.specs.Over.{poured}
-use Rattle.supervisor.specs.Causes.{reportOf}
-use Rattle.supervisor.specs.Supervisor.{stepRefusal, layerAt}
-use Rattle.supervisor.specs.History.{Frame, Event, frame, mark, standsAt, refusalOf, Call, does, reads, after, accepted}
+use Rattle.causes.specs.Causes.{reportOf}
+use Rattle.supervisor.specs.Supervisor.{layerAt}
+use Rattle.history.specs.History.{frame, mark, standsAt, refusalOf, Call, does, reads, after, accepted}
 use Rattle.supervisor.specs.declared.Supervisor.{Supervisor}
-use Rattle.card.specs.Image.{bytesOf}
-use Rattle.card.specs.Report.{reportWord}
+use Rattle.image.specs.Image.{bytesOf}
+use Rattle.word.specs.Report.{reportWord}
 use Rattle.card.specs.Calls.{unless, callRefusal, callAnswer, callSup, markRefusal, markSup, figuresAt, markRecord, traceRefused, traceOut}
 
 -- By the calls' contracts, on bytes: the refusal, the answer, the buffer that a mark or a reading fills, and the bytes after it.

@@ -1,13 +1,10 @@
 // The calls of the line card's C firmware, on numbers and lent bytes. include/otn.h documents them for C.
-mod image;
-mod report;
-
 use answer::checked;
-use supervisor::Request;
+use settings::Request;
 use supervisor::Supervisor;
 ghost use mathlib.Core.Path.{_≡_};
 ghost use lib.ListN.{length};
-ghost use Rattle.card.specs.Image.{loadOf, bytesOf};
+ghost use Rattle.image.specs.Image.{loadOf, bytesOf};
 ghost use Rattle.card.specs.Calls.{provisionBy, FreshCall, StepCall, MarkCall, TraceCall};
 
 fn wide(x: u8) -> u64
@@ -86,7 +83,7 @@ pub extern "C" fn otn_step(sup: &mut [u8], overhead: &[u8], flags: u8, sm: u8, p
             let next = o.supervisor;
             let report = o.report;
             store(sup, next);
-            return report::report_word(report);
+            return word::report_word(report);
         }
         return wide(o.refusal);
     }
@@ -104,7 +101,7 @@ pub extern "C" fn otn_mark(sup: &mut [u8], out: &mut [u8]) -> u64
         if m.refusal == 0 {
             let next = m.supervisor;
             let figures = m.figures;
-            let bytes = codec::record_of(figures);
+            let bytes = words::record_of(figures);
             store(sup, next);
             codec::pour(out, &bytes);
             return 0;

@@ -1,5 +1,5 @@
 pub mod Example
 pub mod Lines
 pub mod Readable
+pub mod Refuted
 pub mod Unique
-pub mod Wrotes

@@ -1,18 +1,17 @@
 -- Laws of the line: it is empty where nothing changed. Assumes nothing.
 use Prim.Native.Nat.{ℕ, _+_, _-_, _≤_}
-use mathlib.Core.Path.{_≡_, sym}
+use mathlib.Core.Path.{_≡_}
 use mathlib.Core.List.{List}
-use lib.ListN.{length, take, drop}
-use lib.Seq.{take-at}
-use lib.Dec.{eqb, leb}
+use lib.ListN.{length}
+use lib.Dec.{leb}
 use native.Mathlib.Omega.{arith}
 use borrow.Author.Tests.{eq-eqb, ne-eqb}
 use Rattle.answer.proofs.Cond.{by-cond}
 use Rattle.answer.specs.Over.{over}
 use Rattle.listing.specs.Text.{fitted}
 use Rattle.answer.proofs.Overs.{over-nil}
-use Rattle.listing.proofs.Overs.{fits}
-use Rattle.change.specs.Wrote.{Wrote}
+use Rattle.listing.proofs.Wrotes.{wrote-fits}
+use Rattle.listing.specs.Wrote.{Wrote}
 use Rattle.change.specs.declared.Shown.{Shown}
 use Rattle.change.specs.Change.{allChanges, frameLine, changeLine}
 
@@ -33,4 +32,4 @@ pub something : {n : ℕ} (second frame total : ℕ) (before after : Shown) (at 
 unfolding changeLine
 something second frame total before after at r d o e h x =
     rw (ne-eqb (length (allChanges before after)) 0 e)
-    (fits d at 1024 r o (frameLine second frame total (allChanges before after)) h (record { place = x .place; text = x .put }))
+    (wrote-fits 1024 h x)

@@ -1,3 +1,1 @@
-pub mod Bytes
 pub mod Change
-pub mod Wrote

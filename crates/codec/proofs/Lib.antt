@@ -1,5 +1,4 @@
 pub mod Overs
-pub mod Words
-pub mod Ranges
 pub mod Pieces
+pub mod Refuted
 pub mod Unique

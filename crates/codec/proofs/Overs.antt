@@ -1,32 +1,15 @@
 -- Laws of writing over: a byte, one writing after another, all of the bytes. Assumes nothing.
-use Prim.Native.Nat.{ℕ, zero, suc, _+_, _*_, _≤_, _<_}
+use Prim.Native.Nat.{ℕ, _+_, _≤_, _<_}
 use mathlib.Core.Path.{_≡_, refl, _∙_, ap, sym}
-use mathlib.Core.Bool.{Bool, true, false, cond}
-use mathlib.Core.List.{List, [], _∷_, _++_, append-assoc, append-nil}
-use native.Mathlib.Nat.{add-assoc, add-zero}
-use native.Mathlib.Numerals.{add-one}
+use mathlib.Core.List.{List, append-nil}
 use native.Mathlib.Omega.{arith}
-use lib.Dec.{leb, ltb}
-use lib.ListN.{length, getD, set, drop, take, length-drop, length-take, length-append, take-append-drop, drop-of-length-le}
-use lib.Seq.{drop-drop, take-at, drop-at, set-split, append-snoc, length-take-le, take-suc, take-all}
+use lib.Dec.{ltb}
+use lib.ListN.{length, take, drop, replicate, drop-of-length-le}
+use lib.Seq.{take-all}
 use borrow.Author.Tests.{le-leb, lt-leb, ltb-true, ltb-false}
 use Rattle.answer.proofs.Cond.{by-cond}
 use Rattle.answer.specs.Over.{over}
-use Rattle.answer.proofs.Overs.{over-nil, set-over, over-length, over-over}
-use Rattle.codec.specs.Over.{laid, leastOf, poured}
-
--- four bytes, one by one
-pub put4 : (d : List ℕ) (n a b c e : ℕ) → n + 4 ≤ length d
-    → set (set (set (set d n a) (n + 1) b) (n + 2) c) (n + 3) e ≡ over d n (a ∷ b ∷ c ∷ e ∷ [])
-put4 d n a b c e h =
-    let x1 = set-over d n a (omega arith) in
-    let l1 = over-length d n (a ∷ []) (omega arith) in
-    let x2 = set-over (over d n (a ∷ [])) (n + 1) b (omega arith) ∙ over-over d n (n + 1) (a ∷ []) (b ∷ []) (omega arith) refl in
-    let l2 = over-length d n (a ∷ b ∷ []) (omega arith) in
-    let x3 = set-over (over d n (a ∷ b ∷ [])) (n + 2) c (omega arith) ∙ over-over d n (n + 2) (a ∷ b ∷ []) (c ∷ []) (omega arith) refl in
-    let l3 = over-length d n (a ∷ b ∷ c ∷ []) (omega arith) in
-    let x4 = set-over (over d n (a ∷ b ∷ c ∷ [])) (n + 3) e (omega arith) ∙ over-over d n (n + 3) (a ∷ b ∷ c ∷ []) (e ∷ []) (omega arith) refl in
-    rw (x1, x2, x3) x4
+use Rattle.codec.specs.Over.{bytesIn, laid, leastOf, poured}
 
 -- all of the bytes
 pub over-all : (d v : List ℕ) → length v ≡ length d → over d 0 v ≡ v
@@ -70,3 +53,12 @@ laid-kept d at k v e h =
 pub poured-all : (d v : List ℕ) → length v ≡ length d → poured d v ≡ v
 unfolding poured
 poured-all d v e = ap (over d 0) (take-all (length d) v (omega arith)) ∙ over-all d v e
+
+-- bytes read within others, and beyond them
+pub bytes-room : (n at : ℕ) (l : List ℕ) → at + n ≤ length l → bytesIn n at l ≡ take n (drop at l)
+unfolding bytesIn
+bytes-room n at l h = rw (le-leb (at + n) (length l) h)
+
+pub bytes-beyond : (n at : ℕ) (l : List ℕ) → length l < at + n → replicate n 0 ≡ bytesIn n at l
+unfolding bytesIn
+bytes-beyond n at l h = rw (lt-leb (at + n) (length l) h)

@@ -1,4 +1,2 @@
-pub mod Words
 pub mod Over
-pub mod Ranges
 pub mod Pieces

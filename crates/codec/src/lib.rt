@@ -1,36 +1,9 @@
-// Numbers and arrays in lent bytes: little-endian words of four bytes, and bytes as they are. Each function takes any place: what does
-// not lie within the lent bytes is read as zeros, and is not written.
+// Arrays in lent bytes. Each function takes any place: what does not lie within the lent bytes is read as zeros, and is not written.
 ghost use mathlib.Core.Path.{_≡_};
-ghost use Prim.Native.Nat.{_+_, _*_, _≤_, _<_};
+ghost use Prim.Native.Nat.{_+_, _≤_};
 ghost use lib.ListN.{length, take, drop};
-ghost use Rattle.codec.specs.Words.{le4, flat, wordAt, wordsOf, wordsIn, bytesIn};
 ghost use Rattle.answer.specs.Over.{over};
-ghost use Rattle.codec.specs.Over.{laid, leastOf, poured};
-ghost use Rattle.codec.specs.Ranges.{inside};
-
-fn wide(x: u8) -> u32
-    ensures { λ r. ⌜ (r ≡ x) × (r < 256) ⌝ }
-{
-    x as u32
-}
-
-// The word whose first byte stands at `at`.
-fn word_at(b: &[u8], at: usize) -> u32
-    requires { ⌜ at + 4 ≤ length (now b) ⌝ }
-    ensures { λ r. ⌜ r ≡ wordAt (now (b .entry)) at ⌝ }
-{
-    wide(b[at]) + 256 * wide(b[at + 1]) + 65536 * wide(b[at + 2]) + 16777216 * wide(b[at + 3])
-}
-
-// w becomes the words of b from `at`.
-fn read_words(w: &mut [u32], b: &[u8], at: usize)
-    requires { ⌜ at + length (now w) * 4 ≤ length (now b) ⌝ }
-    ensures { λ _. ⌜ now (w .exit) ≡ wordsOf (length (now (w .entry))) (drop at (now (b .entry))) ⌝ }
-{
-    for i in 0..w.len() {
-        w[i] = word_at(b, at + i * 4);
-    }
-}
+ghost use Rattle.codec.specs.Over.{bytesIn, laid, leastOf, poured};
 
 // t becomes the bytes of b from `at`.
 fn read_bytes(t: &mut [u8], b: &[u8], at: usize)
@@ -42,27 +15,6 @@ fn read_bytes(t: &mut [u8], b: &[u8], at: usize)
     }
 }
 
-// The four bytes of x from `at`.
-fn put_word(b: &mut [u8], at: usize, x: u32)
-    requires { ⌜ at + 4 ≤ length (now b) ⌝ }
-    ensures { λ _. ⌜ now (b .exit) ≡ over (now (b .entry)) at (le4 x) ⌝ }
-{
-    b[at] = (x % 256) as u8;
-    b[at + 1] = (x / 256 % 256) as u8;
-    b[at + 2] = (x / 65536 % 256) as u8;
-    b[at + 3] = (x / 16777216 % 256) as u8;
-}
-
-// The bytes of the words from `at`.
-fn put_words(b: &mut [u8], at: usize, w: &[u32])
-    requires { ⌜ at + length (now w) * 4 ≤ length (now b) ⌝ }
-    ensures { λ _. ⌜ now (b .exit) ≡ over (now (b .entry)) at (flat (now (w .entry))) ⌝ }
-{
-    for i in 0..w.len() {
-        put_word(b, at + i * 4, w[i]);
-    }
-}
-
 // The bytes of src from `at`.
 fn put_bytes(b: &mut [u8], at: usize, src: &[u8])
     requires { ⌜ at + length (now src) ≤ length (now b) ⌝ }
@@ -71,19 +23,6 @@ fn put_bytes(b: &mut [u8], at: usize, src: &[u8])
     for i in 0..src.len() {
         b[at + i] = src[i];
     }
-}
-
-// Twelve words of b from `at`.
-pub fn words_in(b: &[u8], at: u32) -> [u32; 12]
-    ensures { λ r. ⌜ r ≡ wordsIn 12 at (now (b .entry)) ⌝ }
-{
-    let from = at as usize;
-    let mut w = [0u32; 12];
-    if from + 48 <= b.len() {
-        read_words(&mut w, b, from);
-        return w;
-    }
-    w
 }
 
 // 64 bytes of b from `at`.
@@ -112,16 +51,6 @@ pub fn names_in(b: &[u8], at: u32) -> [u8; 32]
     t
 }
 
-// Twelve words laid over b from `at`.
-pub fn lay_words(b: &mut [u8], at: u32, w: [u32; 12])
-    ensures { λ _. ⌜ now (b .exit) ≡ laid (now (b .entry)) at (flat w) ⌝ }
-{
-    let from = at as usize;
-    if from + 48 <= b.len() {
-        put_words(b, from, &w);
-    }
-}
-
 // 64 bytes laid over b from `at`.
 pub fn lay_trace(b: &mut [u8], at: u32, trace: [u8; 64])
     ensures { λ _. ⌜ now (b .exit) ≡ laid (now (b .entry)) at trace ⌝ }
@@ -142,15 +71,6 @@ pub fn lay_names(b: &mut [u8], at: u32, names: [u8; 32])
     }
 }
 
-// The 80 bytes of twenty words.
-pub fn record_of(w: [u32; 20]) -> [u8; 80]
-    ensures { λ r. ⌜ r ≡ flat w ⌝ }
-{
-    let mut t = [0u8; 80];
-    put_words(&mut t, 0, &w);
-    t
-}
-
 fn least(a: usize, b: usize) -> usize
     ensures { λ r. ⌜ r ≡ leastOf a b ⌝ }
 {
@@ -168,18 +88,4 @@ pub fn pour(out: &mut [u8], src: &[u8])
     for i in 0..n {
         out[i] = src[i];
     }
-}
-
-// Whether each number lies in its range.
-pub fn in_range(lo: [u32; 12], hi: [u32; 12], w: [u32; 12]) -> bool
-    ensures { λ r. ⌜ r ≡ inside lo hi w ⌝ }
-{
-    let mut good = true;
-    for i in 0..12 {
-        let x = w[i];
-        let above = lo[i] <= x;
-        let below = x <= hi[i];
-        good = good & above & below;
-    }
-    good
 }

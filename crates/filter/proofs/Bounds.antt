@@ -1,15 +1,15 @@
 -- What bounds a counter and a filter's run, whatever they were before. Assumes nothing.
 use Prim.Native.Nat.{ℕ, _+_, _≤_, _<_}
-use mathlib.Core.Path.{_≡_, refl}
-use mathlib.Core.Bool.{Bool, true, false, cond, Bool·beq}
+use mathlib.Core.Path.{_≡_}
+use mathlib.Core.Bool.{Bool, Bool·beq}
 use native.Mathlib.Omega.{arith}
 use lib.Dec.{ltb, eqb}
 use borrow.Author.Tests.{ltb-true, lt-ltb, eqb-false}
 use Rattle.answer.proofs.Cond.{by-cond}
 use Rattle.filter.specs.declared.Filter.{Filter}
 use Rattle.filter.specs.declared.Stat.{Stat}
-use Rattle.filter.specs.Filter.{upOf, quiet, filterOf}
-use Rattle.filter.specs.Stat.{inRow, statOf, noStat}
+use Rattle.filter.specs.Filter.{upOf, filterOf}
+use Rattle.filter.specs.Stat.{inRow, statOf}
 
 -- a counter is at most its bound
 pub up-most : (run n : ℕ) → upOf run n ≤ n

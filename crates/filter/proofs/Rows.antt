@@ -1,18 +1,20 @@
 -- From any state n equal bits in a row are taken over, and three equal values accepted. Assumes nothing.
 use Prim.Native.Nat.{ℕ, zero, suc, _+_, _<_, _≤_}
-use mathlib.Core.Path.{_≡_, refl}
-use mathlib.Core.Bool.{Bool, true, false, cond, not, Bool·beq, _||_}
+use mathlib.Core.Path.{_≡_, refl, sym}
+use mathlib.Core.Bool.{Bool, true, false, Bool·beq}
 use mathlib.Core.Logic.{_⊎_, inl, inr, ⊎-elim}
 use native.Mathlib.Omega.{arith}
 use lib.Dec.{ltb, eqb}
-use borrow.Author.Tests.{ltb-true, ltb-false, eq-eqb, eqb-false}
+use borrow.Author.Tests.{eq-eqb, eqb-false}
 use Rattle.answer.proofs.Cond.{by-cond}
+use Rattle.answer.proofs.Every.{beq-eq}
 use Rattle.filter.specs.declared.Filter.{Filter}
 use Rattle.filter.specs.declared.Stat.{Stat}
 use Rattle.filter.specs.Filter.{upOf, filterOf}
 use Rattle.filter.specs.Stat.{inRow, statOf}
 use Rattle.filter.specs.Rows.{fed, TakesOver, Accepts}
 use Rattle.filter.proofs.Bounds.{up-most, in-row-most}
+use Rattle.filter.proofs.Runs.{beq-self}
 
 -- after k of them the filter agrees, or has counted them all
 abbrev Counted : Bool → ℕ → Filter → Type 0
@@ -26,21 +28,11 @@ up-least : (run n : ℕ) → eqb (upOf run n) n ≡ false → upOf run n ≡ run
 unfolding upOf
 up-least run n = by-cond (λ (x : ℕ). eqb x n ≡ false → x ≡ run + 1) (ltb run n) (λ _ _. refl) (λ _ e. absurd (eqb-false n n e refl))
 
-same-bit : (b : Bool) → Bool·beq b b ≡ true
-same-bit true = refl
-same-bit false = refl
-
-agree : (b c : Bool) → Bool·beq b c ≡ true → c ≡ b
-agree true true e = refl
-agree true false e = cc
-agree false true e = cc
-agree false false e = refl
-
 one-more : (n k : ℕ) (bit : Bool) (f : Filter) → Counted bit k f → Less bit n (suc k) (filterOf f n false bit)
 unfolding filterOf
 one-more n k bit f h =
     by-cond (Less bit n (suc k)) (Bool·beq bit (f .on))
-    (λ e. inl (agree bit (f .on) e))
+    (λ e. inl (sym (beq-eq bit (f .on) (rw e tt))))
     (λ d. by-cond (Less bit n (suc k)) (eqb (upOf (f .run) n) n)
     (λ _. inl refl)
     (λ e. ⊎-elim
@@ -53,7 +45,7 @@ one-more n k bit f h =
     h))
   where
     differ : Bool·beq bit (f .on) ≡ false → f .on ≡ bit → ⊥
-    differ d a = let z : true ≡ false = rw (a, same-bit) at d in let w : _≡_ {A = ℕ} 0 1 = cc in omega arith
+    differ d a = let z : true ≡ false = rw (a, beq-self) at d in let w : _≡_ {A = ℕ} 0 1 = cc in omega arith
 
 fed-counted : (n : ℕ) (bit : Bool) (k : ℕ) (f : Filter) → Less bit n (suc k) (fed n bit (suc k) f)
 unfolding fed

@@ -1,56 +1,18 @@
 -- A filter of n and n without its counter: it is on exactly where `On` says. Assumes nothing.
-use mathlib.Core.Path.{_≡_, refl, ap, sym, _∙_, subst⁻¹}
+use mathlib.Core.Path.{_≡_, refl, ap, _∙_}
 use mathlib.Core.Logic.{_↔_}
-use mathlib.Core.Bool.{Bool, true, false, not, cond, Bool·beq, true≢false, false≢true}
+use mathlib.Core.Bool.{Bool, true, false, not, cond, true≢false, false≢true}
 use mathlib.Core.List.{List, [], _∷_, _++_, head-eq-of-cons-eq, tail-eq-of-cons-eq, nil≢cons}
-use Prim.Native.Nat.{ℕ, zero, suc, _+_, _≤_, _<_, zero-le, suc-le-suc}
-use native.Mathlib.Nat.{le-of-suc-le-suc, not-suc-le-zero}
-use native.Mathlib.Numerals.{add-one}
+use Prim.Native.Nat.{ℕ, suc, _+_, _≤_, _<_, zero-le, suc-le-suc}
 use native.Mathlib.Omega.{arith}
 use borrow.Author.Tests.{eqb-true, eqb-false}
 use lib.Dec.{eqb}
-use lib.ListN.{length, drop, replicate}
+use lib.ListN.{drop, replicate}
 use Rattle.filter.specs.declared.Filter.{Filter}
 use Rattle.filter.specs.Filter.{upOf, quiet, filterOf}
 use Rattle.filter.specs.Since.{NoRun, On, Given, filterAfter, bitsSince}
-use Rattle.filter.proofs.Bounds.{up-plain, up-most}
-
--- how many bits at the front are b
-abbrev pub lead : Bool → List Bool → ℕ
-lead b [] = 0
-lead b (x ∷ l) = cond (Bool·beq x b) (suc (lead b l)) 0
-
-beq-self : (b : Bool) → Bool·beq b b ≡ true
-beq-self true = refl
-beq-self false = refl
-
-pub lead-run : (n : ℕ) (b : Bool) (l : List Bool) → n ≤ lead b l → l ≡ replicate n b ++ drop n l
-lead-run zero b l h = refl
-lead-run (suc n) b [] h = absurd (not-suc-le-zero h)
-lead-run (suc n) true (true ∷ l) h = ap (λ (k : List Bool). true ∷ k) (lead-run n true l (le-of-suc-le-suc h))
-lead-run (suc n) true (false ∷ l) h = absurd (not-suc-le-zero h)
-lead-run (suc n) false (true ∷ l) h = absurd (not-suc-le-zero h)
-lead-run (suc n) false (false ∷ l) h = ap (λ (k : List Bool). false ∷ k) (lead-run n false l (le-of-suc-le-suc h))
-
-pub run-lead : (n : ℕ) (b : Bool) (e : List Bool) → n ≤ lead b (replicate n b ++ e)
-run-lead zero b e = zero-le
-run-lead (suc n) b e = rw (beq-self b) (suc-le-suc (run-lead n b e))
-
--- zeros before a 1 are the zeros of the front
-lead-stop : (c z : List Bool) → lead false (c ++ (true ∷ z)) ≡ lead false c
-lead-stop [] z = refl
-lead-stop (true ∷ c) z = refl
-lead-stop (false ∷ c) z = ap suc (lead-stop c z)
-
-norun-one : (n : ℕ) (c : List Bool) → NoRun (suc n) false c → NoRun (suc n) false (true ∷ c)
-norun-one n c q [] e p = true≢false (head-eq-of-cons-eq p)
-norun-one n c q (y ∷ d) e p = q d e (tail-eq-of-cons-eq p)
-
-norun-zero : (n : ℕ) (c : List Bool) → NoRun n false c → suc (lead false c) < n → NoRun n false (false ∷ c)
-norun-zero n c q h [] e p =
-    let k : n ≤ lead false (false ∷ c) = subst⁻¹ (λ (m : List Bool). n ≤ lead false m) p (run-lead n false e) in
-    omega arith
-norun-zero n c q h (y ∷ d) e p = q d e (tail-eq-of-cons-eq p)
+use Rattle.filter.proofs.Bounds.{up-plain}
+use Rattle.filter.proofs.Runs.{lead, lead-run, run-lead, lead-stop, no-nil, no-more, no-tail}
 
 -- n 0s at the front: not on
 zeros-off : (n : ℕ) (l : List Bool) → suc n ≤ lead false l → On (suc n) l → ⊥
@@ -70,11 +32,7 @@ off-cons : (n : ℕ) (x : Bool) (l : List Bool) → (On (suc n) l → ⊥) → (
     → (c a : List Bool) → x ∷ l ≡ c ++ (replicate (suc n) true ++ a) → NoRun (suc n) false c → ⊥
 off-cons n x l k first [] a p q = first a p
 off-cons n x l k first (y ∷ c) a p q =
-    k (record { since = c; before = a; is = tail-eq-of-cons-eq p; none = λ d e r. q (y ∷ d) e (ap (λ (m : List Bool). y ∷ m) r) })
-
-norun-nil : (n : ℕ) → NoRun (suc n) false []
-norun-nil n [] e p = nil≢cons p
-norun-nil n (y ∷ d) e p = nil≢cons p
+    k (record { since = c; before = a; is = tail-eq-of-cons-eq p; none = no-tail (suc n) false y c q })
 
 -- a 0 while on, a 1 while off: t says whether it is the n-th
 zero-while-on : (n : ℕ) (l : List Bool) (r : ℕ) (t : Bool) → eqb (upOf r (suc n)) (suc n) ≡ t → Known (suc n) l (record { on = true; run = r })
@@ -102,7 +60,7 @@ zero-while-on n l r false e k =
         since = false ∷ o .since;
         before = o .before;
         is = ap (λ (m : List Bool). false ∷ m) (o .is);
-        none = norun-zero (suc n) (o .since) (o .none) (omega (arith, k .run-is, z, h));
+        none = no-more (suc n) false false (o .since) (omega (arith, k .run-is, z, h)) (o .none);
       };
       down = λ x. absurd (true≢false x);
     }
@@ -120,7 +78,7 @@ one-while-off n l r true e k =
         since = [];
         before = drop (suc n) (true ∷ l);
         is = lead-run (suc n) true (true ∷ l) (omega (arith, k .run-is, h));
-        none = norun-nil n;
+        none = no-nil n false;
       };
       down = λ x. absurd (true≢false x);
     }
@@ -133,7 +91,7 @@ one-while-off n l r false e k =
       small = omega arith;
       up = λ z. absurd (false≢true z);
       down = λ _ o. off-cons n true l (k .down refl)
-          (λ a p. let z : suc n ≤ lead true (true ∷ l) = subst⁻¹ (λ (m : List Bool). suc n ≤ lead true m) p (run-lead (suc n) true a) in omega (arith, k .run-is, h, z))
+          (λ a p. omega (arith, k .run-is, h, run-lead (suc n) true (true ∷ l) a p))
           (o .since) (o .before) (o .is) (o .none);
     }
 
@@ -144,7 +102,7 @@ known-step n l true r true k = record {
   run-is = refl;
   small = suc-le-suc zero-le;
   up = λ e. let o : On (suc n) l = k .up refl in
-      record { since = true ∷ o .since; before = o .before; is = ap (λ (m : List Bool). true ∷ m) (o .is); none = norun-one n (o .since) (o .none) };
+      record { since = true ∷ o .since; before = o .before; is = ap (λ (m : List Bool). true ∷ m) (o .is); none = no-more (suc n) false true (o .since) (suc-le-suc zero-le) (o .none) };
   down = λ e. absurd (true≢false e);
 }
 known-step n l true r false k = zero-while-on n l r (eqb (upOf r (suc n)) (suc n)) refl k

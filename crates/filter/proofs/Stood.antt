@@ -1,15 +1,13 @@
 -- The accepted value is the one that last stood three frames in a row. Assumes nothing.
-use mathlib.Core.Path.{_≡_, refl, ap, sym, _∙_}
+use mathlib.Core.Path.{_≡_, refl, sym, _∙_}
 use mathlib.Core.Bool.{Bool, true, false, cond, _&&_, _||_}
 use mathlib.Core.List.{List, [], _∷_}
-use Prim.Native.Nat.{ℕ, zero, suc, _+_, _≤_, _<_}
-use native.Mathlib.Omega.{arith}
-use borrow.Author.Tests.{eqb-true, eq-eqb}
+use Prim.Native.Nat.{ℕ}
 use lib.Dec.{eqb}
 use Rattle.filter.specs.declared.Stat.{Stat}
 use Rattle.filter.specs.Filter.{upOf}
 use Rattle.filter.specs.Stat.{noStat, inRow, statOf}
-use Rattle.filter.specs.Stood.{Found, none, value, lastThree, Told, valuesSince, statAfter, foundIn, StatIs}
+use Rattle.filter.specs.Stood.{none, value, lastThree, Told, valuesSince, statAfter, foundIn, StatIs}
 
 -- how often the first value stands at the front, and 3 at most
 abbrev front : List ℕ → ℕ

@@ -1,7 +1,7 @@
 -- Counters that stop at their bound, and the filter of n and n: dBDI and dIAE are filters of 5, dBIAE of 3, dDEG of DEGM.
 -- Assumes nothing.
 use Prim.Native.Nat.{ℕ, _+_}
-use mathlib.Core.Bool.{Bool, true, false, cond, Bool·beq}
+use mathlib.Core.Bool.{Bool, false, cond, Bool·beq}
 use lib.Dec.{ltb, eqb}
 use Rattle.filter.specs.declared.Filter.{Filter}
 

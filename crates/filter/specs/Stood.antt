@@ -1,7 +1,7 @@
 -- The accepted value, said without a counter: the value that last stood three frames in a row since it was forgotten. A list of frames has
 -- the latest first. Assumes nothing.
 use mathlib.Core.Path.{_≡_}
-use mathlib.Core.Bool.{Bool, true, false, cond, _&&_}
+use mathlib.Core.Bool.{Bool, cond, _&&_}
 use mathlib.Core.List.{List, [], _∷_}
 use Prim.Native.Nat.{ℕ}
 use lib.Dec.{eqb}

@@ -11,9 +11,10 @@ use lib.ListN.{length, take, drop, length-append, length-set, length-replicate}
 use lib.Seq.{take-suc-set, take-all, drop-drop}
 use Rattle.answer.proofs.Cond.{by-cond, and-left, and-right}
 use Rattle.filter.specs.Filter.{upOf}
-use Rattle.layer.proofs.Same.{same-in, same-trace}
+use Rattle.names.proofs.Same.{same-in, same-trace}
 use Rattle.layer.specs.declared.Layer.{Layer}
-use Rattle.layer.specs.Layer.{sameTrace, withTrace, equalOf, closedOf, gatheredAt, byteOf, traceOf, comparedOf, timOf, freshLayer}
+use Rattle.names.specs.Names.{sameTrace, comparedOf}
+use Rattle.layer.specs.Layer.{withTrace, equalOf, closedOf, gatheredAt, byteOf, traceOf, timOf, freshLayer}
 use Rattle.layer.specs.Traced.{Turn, has, down, cycle, bytes, alike, third, Found, trace, acceptedBy, turnsSince, traceAfter, foundIn, Grows, Steady, timBy, TraceIs, TimIs}
 
 -- how many alike in a row have ended at the latest frame, and 3 at most

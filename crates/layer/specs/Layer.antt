@@ -1,22 +1,13 @@
 -- What section and path share (document 01, "Accepted values and defects"): the accepted trace, dTIM and dBDI. Assumes nothing.
-use Prim.Native.Nat.{ℕ, zero, suc, _+_, _%_}
+use Prim.Native.Nat.{ℕ, _%_}
 use mathlib.Core.Bool.{Bool, true, false, cond, _&&_, _||_, not}
 use mathlib.Core.List.{List}
 use lib.Dec.{eqb}
-use lib.ListN.{getD, set, replicate}
+use lib.ListN.{set, replicate}
 use Rattle.filter.specs.declared.Filter.{Filter}
 use Rattle.filter.specs.Filter.{upOf, quiet, filterOf}
 use Rattle.layer.specs.declared.Layer.{Layer}
-use Rattle.layer.specs.declared.Compared.{Compared}
-
--- whether n bytes, from a place on, are the same in both
-unfoldable pub sameIn : ℕ → ℕ → List ℕ → List ℕ → Bool
-sameIn zero from a b = true
-sameIn (suc n) from a b = sameIn n from a b && eqb (getD a (from + n) 0) (getD b (from + n) 0)
-
--- two cycles, in all 64 bytes
-unfoldable pub sameTrace : List ℕ → List ℕ → Bool
-sameTrace a b = sameIn 64 0 a b
+use Rattle.names.specs.Names.{sameTrace, comparedOf}
 
 -- the layer with another trace
 abbrev pub withTrace : Layer → List ℕ → List ℕ → List ℕ → Bool → Bool → ℕ → Layer
@@ -69,10 +60,6 @@ traceOf l forget inmulti number tti =
 unfoldable pub layerOf : Layer → Bool → Bool → ℕ → ℕ → Bool → Layer
 layerOf l forget inmulti number tti bdi =
     withBdi (traceOf l forget inmulti number tti) (filterOf (l .bdi) 5 forget bdi)
-
--- "SAPI is bytes 0 to 15, DAPI 16 to 31"; the expected names are "SAPI then DAPI"
-unfoldable pub comparedOf : List ℕ → List ℕ → Compared
-comparedOf accepted names = record { sapi = sameIn 16 0 accepted names; dapi = sameIn 16 16 accepted names }
 
 -- "dTIM: a trace is accepted and the compared field differs. Mode 0 off, 1 SAPI, 2 DAPI, 3 both (either differing suffices)."
 -- (6.2.2.1)

@@ -4,7 +4,7 @@ use mathlib.Core.Bool.{Bool, cond}
 use mathlib.Core.List.{List}
 use lib.ListN.{set}
 use Rattle.filter.specs.Filter.{upOf}
-use Rattle.layer.specs.Layer.{sameTrace}
+use Rattle.names.specs.Names.{sameTrace}
 
 -- a byte put into a cycle, where it is taken
 abbrev pub putIn : List ℕ → Bool → ℕ → ℕ → List ℕ

@@ -7,6 +7,7 @@ use Prim.Native.Nat.{ℕ, zero, suc, _+_, _%_}
 use lib.Dec.{eqb}
 use lib.ListN.{length, take, drop}
 use Rattle.layer.specs.declared.Layer.{Layer}
+use Rattle.names.specs.Names.{same}
 use Rattle.layer.specs.Layer.{traceOf, timOf, freshLayer}
 
 -- what a layer is given in a frame for its trace: to forget, IM or OOM, the local number, the TTI byte
@@ -35,13 +36,6 @@ unfoldable pub bytes : List Turn → ℕ → List ℕ
 bytes l zero = []
 bytes [] (suc n) = []
 bytes (x ∷ l) (suc n) = bytes l n ++ (x .tti ∷ [])
-
--- two lists are the same
-unfoldable pub same : List ℕ → List ℕ → Bool
-same [] [] = true
-same [] (b ∷ m) = false
-same (a ∷ l) [] = false
-same (a ∷ l) (b ∷ m) = eqb a b && same l m
 
 -- the cycles that end here and 64 frames earlier are alike
 abbrev pub alike : List Turn → Bool

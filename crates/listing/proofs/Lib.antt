@@ -1,2 +1,4 @@
 pub mod Overs
+pub mod Refuted
 pub mod Unique
+pub mod Wrotes

@@ -1,20 +1,18 @@
 -- Laws of what is put, of the decimal digits and of the line. Assumes nothing.
 use Prim.Native.Nat.{ℕ, zero, suc, _+_, _-_, _*_, _/_, _%_, _^_, _≤_, _<_}
 use mathlib.Core.Path.{_≡_, refl, _∙_, ap, sym}
-use mathlib.Core.Bool.{Bool, true, false, cond}
+use mathlib.Core.Bool.{Bool, true, false}
 use mathlib.Core.List.{List, [], _∷_, _++_, append-assoc, append-nil}
-use native.Mathlib.Nat.{add-assoc, add-zero, pow-suc, pow-zero, pow-le-pow-right, mod-eq-of-lt}
-use native.Mathlib.Numerals.{add-one}
+use native.Mathlib.Nat.{pow-suc, pow-zero, pow-le-pow-right, mod-eq-of-lt}
 use native.Mathlib.Omega.{arith}
 use lib.Dec.{leb, ltb}
-use lib.ListN.{length, getD, set, drop, take, length-drop, length-take, length-append, take-append-drop}
-use lib.Seq.{drop-drop, take-at, drop-at, set-split, append-snoc, length-take-le, take-suc, drop-append-add, take-all}
+use lib.ListN.{length, getD, take, length-append}
 use borrow.Author.Tests.{lt-ltb, le-ltb, lt-leb, le-leb, leb-true, leb-false}
 use Rattle.answer.proofs.Cond.{by-cond}
-use Rattle.io.specs.Digits.{digits, glyph, Fewest}
+use Rattle.io.specs.Digits.{digits, Fewest}
 use Rattle.answer.specs.Over.{over}
 use Rattle.answer.proofs.Overs.{over-nil, over-over}
-use Rattle.listing.specs.Text.{decimalIn, decimalOf, fieldOf, fieldsOf, lineOf, fitted}
+use Rattle.listing.specs.Text.{decimalIn, fieldOf, fieldsOf, lineOf, fitted}
 
 pow-pos-10 : (j : ℕ) → 1 ≤ 10 ^ j
 pow-pos-10 zero = omega (arith, pow-zero 10)
@@ -64,35 +62,6 @@ at-most k n u h = by (leb k 20) refl
         let m : 10 ^ 20 ≤ 10 ^ (k - 1) = pow-le-pow-right ten g in
         absurd (omega arith)
 
--- what holds in the loop over the numbers: i of them are written, from a place on
-pub record Fields (d : List ℕ) (from : ℕ) (ns o : List ℕ) (at i : ℕ) : Type 0 where
-  pub within : i ≤ length ns
-  pub long : length o ≡ length d
-  pub bound : at ≤ from + 21 * i
-  pub place : at ≡ from + length (fieldsOf (take i ns))
-  pub text : o ≡ over d from (fieldsOf (take i ns))
-
-pub fields-none : (d : List ℕ) (from : ℕ) (ns : List ℕ) → Fields d from ns d from 0
-unfolding fieldsOf
-fields-none d from ns = record { within = omega arith; long = refl; bound = omega arith; place = omega arith; text = over-nil d from }
-
-pub fields-more : (d : List ℕ) (from : ℕ) (ns o : List ℕ) (at i r : ℕ) (o₂ : List ℕ) → Fields d from ns o at i → i < length ns → from ≤ length d
-    → r ≡ at + length (fieldOf (getD ns i 0)) → r ≤ at + 21 → o₂ ≡ over o at (fieldOf (getD ns i 0)) → length o₂ ≡ length o → Fields d from ns o₂ r (i + 1)
-fields-more d from ns o at i r o₂ f h l p q t g =
-    let e : fieldsOf (take i ns) ++ fieldOf (getD ns i 0) ≡ fieldsOf (take (i + 1) ns) = rw add-one (sym (fields-suc ns i h)) in
-    record {
-      within = omega arith;
-      long = g ∙ f .long;
-      bound = omega (arith, f .bound);
-      place = omega (arith, p, f .place, simp length-append at (ap length e));
-      text = then d from at (fieldsOf (take i ns)) (fieldOf (getD ns i 0)) o o₂ l (f .place) (f .text) t ∙ ap (over d from) e;
-    }
-
-pub fields-all : (d : List ℕ) (from : ℕ) (ns o : List ℕ) (at i : ℕ) → Fields d from ns o at i → length ns ≤ i → (at ≡ from + length (fieldsOf ns)) × (at ≤ from + 21 * length ns) × (o ≡ over d from (fieldsOf ns))
-fields-all d from ns o at i f h =
-    let e : take i ns ≡ ns = take-all i ns h in
-    (f .place ∙ ap (λ (l : List ℕ). from + length (fieldsOf l)) e, omega (arith, f .bound, f .within), f .text ∙ ap (λ (l : List ℕ). over d from (fieldsOf l)) e)
-
 -- what is put where there is room
 pub record Put (d : List ℕ) (at : ℕ) (r : ℕ) (o v : List ℕ) : Type 0 where
   pub place : r ≡ at + length v
@@ -104,18 +73,6 @@ put-then d at p r v w o₁ o₂ h x y = record {
   place = rw length-append (omega (arith, x .place, y .place));
   text = then d at p v w o₁ o₂ h (x .place) (x .text) (y .text);
 }
-
--- a letter, the text of the numbers and a line end, one after the other, are the line
-pub line-put : (d : List ℕ) (at letter : ℕ) (ns : List ℕ) (p q r : ℕ) (o₁ o₂ o₃ : List ℕ) → at ≤ length d
-    → Put d at p o₁ (letter ∷ []) → Put o₁ p q o₂ (fieldsOf ns) → Put o₂ q r o₃ (10 ∷ []) → Put d at r o₃ (lineOf letter ns)
-unfolding lineOf
-line-put d at letter ns p q r o₁ o₂ o₃ h x y z =
-    put-then d at q r (letter ∷ fieldsOf ns) (10 ∷ []) o₂ o₃ h (put-then d at p q (letter ∷ []) (fieldsOf ns) o₁ o₂ h x y) z
-
--- two numbers, one after the other
-pub pair-put : (d : List ℕ) (at a b p q : ℕ) (o₁ o₂ : List ℕ) → at ≤ length d → Put d at p o₁ (fieldOf a) → Put o₁ p q o₂ (fieldOf b) → Put d at q o₂ (fieldsOf (a ∷ b ∷ []))
-unfolding fieldsOf
-pair-put d at a b p q o₁ o₂ h x y = rw append-nil (put-then d at p q (fieldOf a) (fieldOf b) o₁ o₂ h x y)
 
 -- a line is put where there is room
 pub fits : (d : List ℕ) (at room r : ℕ) (o v : List ℕ) → room ≤ length d - at → Put d at r o v

@@ -1,5 +1,5 @@
 -- No second answer, and no second content of the lent buffer, meets the contract of a public function. Assumes nothing.
-use mathlib.Core.Path.{_≡_, sym, _∙_}
+use mathlib.Core.Path.{sym, _∙_}
 use mathlib.Core.List.{List}
 use Prim.Native.Nat.{ℕ}
 use denote.Ref.{now}
@@ -8,6 +8,8 @@ use Rattle.listing.proofs.put_text.Kinds as text-kinds
 use Rattle.listing.proofs.put_text.Reads as text-reads
 use Rattle.listing.proofs.put_number.Kinds as number-kinds
 use Rattle.listing.proofs.put_number.Reads as number-reads
+use Rattle.listing.proofs.put_start.Kinds as start-kinds
+use Rattle.listing.proofs.put_start.Reads as start-reads
 use Rattle.listing.proofs.second_line.Kinds as second-kinds
 use Rattle.listing.proofs.second_line.Reads as second-reads
 use Rattle.listing.proofs.refusal_line.Kinds as refusal-kinds
@@ -26,6 +28,12 @@ number-one κs a x y s t p q = p .0 ∙ sym (q .0)
 
 pub number-end : OneEnd 1 number-kinds.ps number-kinds.r (List ℕ) (λ κs s. now (s .1 .0)) number-reads.Post
 number-end κs a x y s t p q = p .1 ∙ sym (q .1)
+
+pub start-one : OneAnswer 1 start-kinds.ps start-kinds.r start-reads.Post
+start-one κs a x y s t p q = p .0 ∙ sym (q .0)
+
+pub start-end : OneEnd 1 start-kinds.ps start-kinds.r (List ℕ) (λ κs s. now (s .1 .1 .0)) start-reads.Post
+start-end κs a x y s t p q = p .1 ∙ sym (q .1)
 
 pub second-one : OneAnswer 1 second-kinds.ps second-kinds.r second-reads.Post
 second-one κs a x y s t p q = p .0 ∙ sym (q .0)

@@ -1,8 +1,7 @@
 -- The text of the listing's lines (document 01, "Trace records and the listing"). Assumes nothing.
 use Prim.Native.Nat.{ℕ, zero, suc, _+_, _-_, _/_, _%_}
-use mathlib.Core.Bool.{Bool, true, false, cond}
+use mathlib.Core.Bool.{cond}
 use mathlib.Core.List.{List, [], _∷_, _++_}
-use lib.ListN.{length, take, drop}
 use lib.Dec.{leb, ltb}
 
 -- the decimal digits of a number, of f digits at most: a digit d is the byte 48 + d
@@ -22,9 +21,13 @@ unfoldable pub fieldsOf : List ℕ → List ℕ
 fieldsOf [] = []
 fieldsOf (n ∷ ns) = fieldOf n ++ fieldsOf ns
 
--- a line: a letter, numbers each after a blank, a line end
+-- the start of a line: a letter, and numbers each after a blank
+abbrev pub startOf : ℕ → List ℕ → List ℕ
+startOf letter ns = letter ∷ fieldsOf ns
+
+-- a line: its start and a line end
 unfoldable pub lineOf : ℕ → List ℕ → List ℕ
-lineOf letter ns = (letter ∷ fieldsOf ns) ++ (10 ∷ [])
+lineOf letter ns = startOf letter ns ++ (10 ∷ [])
 
 -- "S: second from 1, frames, heads 0 to 9, section near blocks, far blocks, near DS, far DS, then the path's four."
 abbrev pub secondLine : List ℕ → List ℕ
@@ -45,6 +48,10 @@ fitted long at room line = cond (leb room (long - at)) line []
 -- the room that the digits of a number are given
 abbrev pub numberRoom : ℕ
 numberRoom = 20
+
+-- the room that a start with three numbers is given: its letter, and 21 bytes for each number
+abbrev pub startRoom : ℕ
+startRoom = 64
 
 -- the room that a line is given: two bytes, and 21 for each number
 abbrev pub secondRoom : ℕ

@@ -4,48 +4,8 @@ ghost use mathlib.Core.List.{[], _∷_};
 ghost use Prim.Native.Nat.{_+_, _-_, _*_, _≤_, _<_};
 ghost use lib.ListN.{length};
 ghost use Rattle.answer.specs.Over.{over};
-ghost use Rattle.listing.specs.Text.{decimalOf, fieldOf, fieldsOf, lineOf, fitted, secondLine, refusalLine, endLine, numberRoom, secondRoom, pairRoom};
-
-// One byte at a place.
-fn put_byte(out: &mut [u8], at: usize, b: u8) -> usize
-    requires { ⌜ at < length (now out) ⌝ }
-    ensures { λ r. ⌜ (r ≡ at + 1) × (now (out .exit) ≡ over (now (out .entry)) at (b ∷ [])) ⌝ }
-{
-    out[at] = b;
-    at + 1
-}
-
-// The bytes of src from a place on.
-fn put_bytes(out: &mut [u8], at: usize, src: &[u8]) -> usize
-    requires { ⌜ length (now src) ≤ length (now out) - at ⌝ }
-    ensures { λ r. ⌜ (r ≡ at + length (now (src .entry))) × (now (out .exit) ≡ over (now (out .entry)) at (now (src .entry))) ⌝ }
-{
-    let mut i = 0;
-    while i < src.len() {
-        out[at + i] = src[i];
-        i += 1;
-    }
-    at + i
-}
-
-// The digits of a number.
-fn put_decimal(out: &mut [u8], at: usize, n: u64) -> usize
-    requires { ⌜ at + 20 ≤ length (now out) ⌝ }
-    ensures { λ r. ⌜ (r ≡ at + length (decimalOf n)) × (r ≤ at + 20) × (now (out .exit) ≡ over (now (out .entry)) at (decimalOf n)) ⌝ }
-{
-    let mut digits = [0u8; 20];
-    let k = io::decimal(n, &mut digits);
-    put_bytes(out, at, &digits[..k])
-}
-
-// A blank and a number.
-fn put_field(out: &mut [u8], at: usize, n: u64) -> usize
-    requires { ⌜ at + 21 ≤ length (now out) ⌝ }
-    ensures { λ r. ⌜ (r ≡ at + length (fieldOf n)) × (r ≤ at + 21) × (now (out .exit) ≡ over (now (out .entry)) at (fieldOf n)) ⌝ }
-{
-    let p = put_byte(out, at, 32);
-    put_decimal(out, p, n)
-}
+ghost use Rattle.listing.specs.Text.{decimalOf, fieldOf, fieldsOf, startOf, lineOf, fitted, secondLine, refusalLine, endLine, numberRoom, startRoom, secondRoom, pairRoom};
+ghost use Rattle.listing.specs.Wrote.{Wrote};
 
 fn wide(x: u32) -> u64
     ensures { λ r. ⌜ r ≡ x ⌝ }
@@ -57,20 +17,6 @@ fn wide8(x: u8) -> u64
     ensures { λ r. ⌜ r ≡ x ⌝ }
 {
     x as u64
-}
-
-// The numbers, each after a blank.
-fn put_fields(out: &mut [u8], from: usize, ns: &[u32]) -> usize
-    requires { ⌜ from + 21 * length (now ns) ≤ length (now out) ⌝ }
-    ensures { λ r. ⌜ (r ≡ from + length (fieldsOf (now (ns .entry)))) × (r ≤ from + 21 * length (now (ns .entry))) × (now (out .exit) ≡ over (now (out .entry)) from (fieldsOf (now (ns .entry)))) ⌝ }
-{
-    let mut at = from;
-    let mut i = 0;
-    while i < ns.len() {
-        at = put_field(out, at, wide(ns[i]));
-        i += 1;
-    }
-    at
 }
 
 // The bytes from a place to the end.
@@ -88,10 +34,15 @@ pub fn put_text(src: &[u8], out: &mut [u8], at: usize) -> usize
     ensures { λ r. ⌜ (r ≡ at + length (fitted (length (now (out .entry))) at (length (now (src .entry))) (now (src .entry)))) × (now (out .exit) ≡ over (now (out .entry)) at (fitted (length (now (out .entry))) at (length (now (src .entry))) (now (src .entry)))) ⌝ }
 {
     let free = room(out.len(), at);
-    if src.len() <= free {
-        return put_bytes(out, at, src);
+    if free < src.len() {
+        return at;
     }
-    at
+    let mut i = 0;
+    while i < src.len() {
+        out[at + i] = src[i];
+        i += 1;
+    }
+    at + i
 }
 
 // Puts the digits of a number, as `put_text` does, where there is room for 20.
@@ -100,9 +51,76 @@ pub fn put_number(n: u64, out: &mut [u8], at: usize) -> usize
 {
     let free = room(out.len(), at);
     if 20 <= free {
-        return put_decimal(out, at, n);
+        let mut digits = [0u8; 20];
+        let k = io::decimal(n, &mut digits);
+        return put_text(&digits[..k], out, at);
     }
     at
+}
+
+// One byte.
+fn put_byte(b: u8, out: &mut [u8], at: usize) -> usize
+    requires { ⌜ at < length (now out) ⌝ }
+    ensures { λ r. ⌜ Wrote 1 (now (out .entry)) at r (now (out .exit)) (b ∷ []) ⌝ }
+{
+    out[at] = b;
+    at + 1
+}
+
+// A blank and a number.
+fn put_field(n: u64, out: &mut [u8], at: usize) -> usize
+    requires { ⌜ at + 21 ≤ length (now out) ⌝ }
+    ensures { λ r. ⌜ Wrote 21 (now (out .entry)) at r (now (out .exit)) (fieldOf n) ⌝ }
+{
+    let p = put_byte(b' ', out, at);
+    put_number(n, out, p)
+}
+
+// The numbers, each after a blank.
+fn put_fields(ns: &[u64], out: &mut [u8], from: usize) -> usize
+    requires { ⌜ from + 21 * length (now ns) ≤ length (now out) ⌝ }
+    ensures { λ r. ⌜ Wrote (21 * length (now (ns .entry))) (now (out .entry)) from r (now (out .exit)) (fieldsOf (now (ns .entry))) ⌝ }
+{
+    let mut at = from;
+    let mut i = 0;
+    while i < ns.len() {
+        at = put_field(ns[i], out, at);
+        i += 1;
+    }
+    at
+}
+
+// Puts a letter and three numbers, the start of a line, as `put_text` does, where there is room for `startRoom`.
+pub fn put_start(letter: u8, ns: [u64; 3], out: &mut [u8], at: usize) -> usize
+    ensures { λ r. ⌜ (r ≡ at + length (fitted (length (now (out .entry))) at startRoom (startOf letter ns))) × (now (out .exit) ≡ over (now (out .entry)) at (fitted (length (now (out .entry))) at startRoom (startOf letter ns))) ⌝ }
+{
+    let free = room(out.len(), at);
+    if 64 <= free {
+        let p = put_byte(letter, out, at);
+        return put_fields(&ns, out, p);
+    }
+    at
+}
+
+// A line: a letter, the numbers and a line end.
+fn put_line(letter: u8, ns: &[u64], out: &mut [u8], at: usize) -> usize
+    requires { ⌜ at + (2 + 21 * length (now ns)) ≤ length (now out) ⌝ }
+    ensures { λ r. ⌜ Wrote (2 + 21 * length (now (ns .entry))) (now (out .entry)) at r (now (out .exit)) (lineOf letter (now (ns .entry))) ⌝ }
+{
+    let p = put_byte(letter, out, at);
+    let q = put_fields(ns, out, p);
+    put_byte(b'\n', out, q)
+}
+
+// The figures of a second as they are put.
+fn widened(figures: [u32; 20]) -> [u64; 20]
+    ensures { λ r. ⌜ r ≡ figures ⌝ }
+{
+    let mut ns = [0u64; 20];
+    for i in 0..20 {
+        ns[i] = wide(figures[i]);
+    }
+    ns
 }
 
 // Puts the line of a closed second at a place and answers the place after it. Where there is less room than `secondRoom`, it puts
@@ -112,9 +130,8 @@ pub fn second_line(figures: [u32; 20], out: &mut [u8], at: usize) -> usize
 {
     let free = room(out.len(), at);
     if 422 <= free {
-        let p = put_byte(out, at, b'S');
-        let q = put_fields(out, p, &figures);
-        return put_byte(out, q, 10);
+        let ns = widened(figures);
+        return put_line(b'S', &ns, out, at);
     }
     at
 }
@@ -125,10 +142,8 @@ fn pair_line(letter: u8, a: u64, b: u64, out: &mut [u8], at: usize) -> usize
 {
     let free = room(out.len(), at);
     if 44 <= free {
-        let p = put_byte(out, at, letter);
-        let q = put_field(out, p, a);
-        let r = put_field(out, q, b);
-        return put_byte(out, r, 10);
+        let ns = [a, b];
+        return put_line(letter, &ns, out, at);
     }
     at
 }

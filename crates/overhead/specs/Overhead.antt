@@ -1,5 +1,5 @@
 -- "One frame's overhead" (document 01): what is read from the 64 bytes. Bytes past the end count as 0. Assumes nothing.
-use mathlib.Core.Bool.{Bool, true, false, _&&_}
+use mathlib.Core.Bool.{Bool, _&&_}
 use mathlib.Core.List.{List}
 use Prim.Native.Nat.{ℕ, _+_, _-_, _*_, _/_, _%_, _^_}
 use lib.Dec.{leb, eqb}

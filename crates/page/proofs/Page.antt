@@ -1,13 +1,13 @@
 -- Every rule of document 01 by the history alone. Assumes nothing.
 use mathlib.Core.Path.{_≡_, refl, ap, sym, _∙_, subst, subst⁻¹}
 use mathlib.Core.Logic.{_↔_}
-use mathlib.Core.Bool.{Bool, true, false, cond, _&&_, _||_, false≢true}
+use mathlib.Core.Bool.{Bool, true, false, cond, _||_, false≢true}
 use mathlib.Core.List.{List, [], _∷_, map}
-use Prim.Native.Nat.{ℕ, zero, suc, _+_, _%_, _<_, _≤_}
+use Prim.Native.Nat.{ℕ, zero, suc, _+_, _%_, _<_}
 use native.Mathlib.Omega.{arith}
 use native.Mathlib.Nat.{not-suc-le-zero}
 use borrow.Author.Tests.{eqb-true, eq-eqb}
-use lib.Dec.{leb, eqb}
+use lib.Dec.{eqb}
 use lib.ListN.{length}
 use Rattle.answer.proofs.Cond.{by-cond}
 use Rattle.overhead.specs.Overhead.{threeOf, fourOf, overheadOf}
@@ -16,16 +16,16 @@ use Rattle.filter.specs.declared.Stat.{Stat}
 use Rattle.filter.specs.Filter.{upOf, quiet, filterOf}
 use Rattle.filter.specs.Stat.{statOf}
 use Rattle.filter.specs.Since.{On, Given, filterAfter, bitsSince}
-use Rattle.filter.specs.Stood.{Told, valuesSince, lastThree, statAfter, foundIn}
+use Rattle.filter.specs.Stood.{statAfter, foundIn}
 use Rattle.filter.proofs.Since.{filter-on}
 use Rattle.filter.proofs.Stood.{stat-is}
 use Rattle.alignment.specs.declared.Alignment.{Alignment}
 use Rattle.alignment.specs.declared.Framing.{Framing}
 use Rattle.alignment.specs.declared.Multi.{Multi}
-use Rattle.alignment.specs.Alignment.{framesOf, framingOf, lofOf, nextOf, multiOf, lomOf, alignOf, dLOF, dLOM, freshAlignment}
-use Rattle.alignment.specs.Since.{oofs, Cut, AllOut, LofIs, lofAfter, lomAfter}
-use Rattle.alignment.specs.Framed.{Signs, four, Framed, FramingIs, framingAfter}
-use Rattle.alignment.specs.Numbered.{Look, Numbered, MultiIs, multiAfter, placeOf}
+use Rattle.alignment.specs.Alignment.{framesOf, framingOf, lofOf, nextOf, multiOf, lomOf, alignOf, dLOM, freshAlignment}
+use Rattle.alignment.specs.Since.{AllOut, LofIs, lofAfter, lomAfter}
+use Rattle.alignment.specs.Framed.{four, Framed, FramingIs, framingAfter}
+use Rattle.alignment.specs.Numbered.{Numbered, multiAfter, placeOf}
 use Rattle.alignment.proofs.Since.{lof-is, lom-is}
 use Rattle.alignment.proofs.Framed.{framing-is}
 use Rattle.alignment.proofs.Numbered.{multi-is}
@@ -33,13 +33,13 @@ use Rattle.layer.specs.declared.Layer.{Layer}
 use Rattle.layer.specs.Layer.{withBdi, withDeg, equalOf, gatheredAt, closedOf as closedCycle, byteOf, traceOf, layerOf, timOf, freshLayer}
 use Rattle.layer.specs.Traced.{Turn, Grows, Steady, turnsSince, acceptedBy, traceAfter, timBy, foundIn as foundTrace}
 use Rattle.layer.proofs.Traced.{trace-is, tim-is}
-use Rattle.supervisor.specs.Layers.{lineOf, sectionOf, pathOf, layersOf, standingOf, sectionStands, pathStands}
-use Rattle.supervisor.specs.Second.{closedOf}
+use Rattle.frame.specs.Layers.{lineOf, sectionOf, pathOf, layersOf, standingOf, sectionStands, pathStands}
+use Rattle.second.specs.Second.{closedOf}
 use Rattle.supervisor.specs.Supervisor.{freshOf, frameOf, standsAfter, nextSecond}
-use Rattle.supervisor.specs.History.{Frame, Event, frame, mark, standsAt, framed, eventOf, after}
-use Rattle.supervisor.specs.Ranges.{SettingsIn}
-use Rattle.supervisor.specs.declared.second.Second.{Second}
-use Rattle.supervisor.specs.declared.settings.Settings.{Settings}
+use Rattle.history.specs.History.{Frame, Event, frame, mark, framed, eventOf, after}
+use Rattle.settings.specs.Ranges.{SettingsIn}
+use Rattle.second.specs.declared.Second.{Second}
+use Rattle.settings.specs.declared.Settings.{Settings}
 use Rattle.supervisor.specs.declared.Supervisor.{Supervisor}
 use Rattle.page.specs.Page.{framesBack, signsOf, inframes, looks, inmultis, Stood, stoodAt, stoodBack, closedBack, sectionTurn, pathTurn, sectionBdi, pathBdi, iae, biae, stat, sectionBad, pathBad, Page}
 

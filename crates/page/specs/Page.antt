@@ -2,9 +2,9 @@
 -- marks. A history is a list of accepted events in their order of time; the lists made of it have the latest first. Assumes nothing.
 use mathlib.Core.Path.{_≡_}
 use mathlib.Core.Logic.{_↔_}
-use mathlib.Core.Bool.{Bool, true, false, cond, _||_}
+use mathlib.Core.Bool.{Bool, true, false, _||_}
 use mathlib.Core.List.{List, [], _∷_, map}
-use Prim.Native.Nat.{ℕ, _+_}
+use Prim.Native.Nat.{ℕ}
 use lib.Dec.{leb, eqb}
 use Rattle.overhead.specs.Overhead.{byteAt, threeOf, overheadOf}
 use Rattle.filter.specs.Since.{On, Given, bitsSince}
@@ -14,15 +14,15 @@ use Rattle.alignment.specs.Since.{oofs, Cut, AllOut}
 use Rattle.alignment.specs.Framed.{Signs, Framed, framingAfter}
 use Rattle.alignment.specs.Numbered.{Look, Numbered, multiAfter, placeOf}
 use Rattle.layer.specs.Layer.{timOf}
-use Rattle.layer.specs.Signal.{isAis}
+use Rattle.signal.specs.Signal.{isAis}
 use Rattle.layer.specs.Traced.{Turn, turnsSince, acceptedBy, timBy, foundIn as foundTrace}
-use Rattle.supervisor.specs.Causes.{ssfOf, pathSsf}
-use Rattle.supervisor.specs.Second.{closedOf}
+use Rattle.causes.specs.Causes.{ssfOf, pathSsf}
+use Rattle.second.specs.Second.{closedOf}
 use Rattle.supervisor.specs.Supervisor.{freshOf, nextSecond}
-use Rattle.supervisor.specs.History.{Frame, Event, frame, mark, standsAt, framed, after}
-use Rattle.supervisor.specs.declared.causes.Standing.{Standing}
-use Rattle.supervisor.specs.declared.second.Second.{Second}
-use Rattle.supervisor.specs.declared.settings.Settings.{Settings}
+use Rattle.history.specs.History.{Frame, Event, frame, mark, standsAt, framed, after}
+use Rattle.causes.specs.declared.Standing.{Standing}
+use Rattle.second.specs.declared.Second.{Second}
+use Rattle.settings.specs.declared.Settings.{Settings}
 use Rattle.supervisor.specs.declared.Supervisor.{Supervisor}
 
 -- the frames of a history, the latest first, put before those of l

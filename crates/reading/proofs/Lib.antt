@@ -2,3 +2,4 @@ pub mod Shifts
 pub mod Lines
 pub mod Turns
 pub mod Refills
+pub mod Refuted

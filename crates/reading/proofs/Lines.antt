@@ -1,7 +1,7 @@
 -- The laws of the loop that takes a piece's records and gathers their lines. Assumes nothing.
-use Prim.Native.Nat.{ℕ, zero, suc, _+_, _-_, _*_, _≤_, _<_}
+use Prim.Native.Nat.{ℕ, _+_, _-_, _*_, _≤_}
 use mathlib.Core.Path.{_≡_, refl, _∙_, ap, sym}
-use mathlib.Core.Bool.{Bool, true, false, cond}
+use mathlib.Core.Bool.{Bool, true, false}
 use mathlib.Core.List.{List, [], _∷_, _++_}
 use native.Mathlib.Nat.{add-zero, add-sub-cancel-left}
 use native.Mathlib.Omega.{arith}
@@ -9,21 +9,56 @@ use lib.Dec.{leb}
 use lib.ListN.{length, drop, length-append}
 use Rattle.answer.proofs.Cond.{by-cond}
 use Rattle.answer.specs.Over.{over}
-use Rattle.listing.specs.Text.{fitted, secondLine, lineOf}
-use Rattle.answer.proofs.Overs.{over-nil, over-over, over-length}
+use Rattle.listing.specs.Text.{fitted, secondLine}
+use Rattle.answer.proofs.Overs.{over-nil, over-over}
 use Rattle.listing.proofs.Overs.{fitted-is, line-length}
 use Rattle.trace.specs.declared.State.{State}
 use Rattle.trace.specs.declared.Run.{Run}
+use Rattle.trace.specs.declared.Stop.{Stop}
 use Rattle.trace.specs.declared.Stop.the-variants as stop
 use Rattle.trace.specs.Scan.{runOf}
-use Rattle.trace.specs.Stream.{Note, second, change, Scan, before, stopped, scanFrom, after}
-use Rattle.trace.specs.Counts.{Counted}
-use Rattle.trace.proofs.Streams.{agree}
-use Rattle.trace.proofs.Counts.{run-counted, Stands, stands}
-use Rattle.reading.specs.Listing.{lineFor, linesOf}
-use Rattle.reading.specs.Turn.{readingOf, readFrom, gatheredOf, Sound}
+use Rattle.stream.specs.Stream.{Note, second, change, Scan, before, stopped, scanFrom, after}
+use Rattle.stream.specs.Counts.{Counted}
+use Rattle.stream.proofs.Streams.{agree}
+use Rattle.stream.proofs.Counts.{run-counted, Stands, stands}
+use Rattle.lines.specs.Line.{lineFor}
+use Rattle.reading.specs.Listing.{linesOf}
+use Rattle.reading.specs.Turn.{readingOf, readFrom, haltOf, Sound}
 use Rattle.reading.specs.declared.Reading.{Reading}
-use Rattle.reading.specs.declared.Gathered.{Gathered}
+use Rattle.reading.specs.declared.Halt.{Halt}
+
+-- the records of a piece taken: where the reading stands, the bytes used, the bytes of text gathered, and the refusal
+pub record Gathered : Type 0 where
+  pub reading : Reading
+  pub used : ℕ
+  pub put : ℕ
+  pub refusal : ℕ
+
+abbrev pub gatheredOf : Reading → List ℕ → Gathered
+gatheredOf r s =
+    let c : Scan = readFrom r s in
+    record { reading = readingOf (r .tell) c; used = c .at - r .at; put = length (linesOf (c .told)); refusal = c .refusal }
+
+-- which stop it was, by what it says
+closed-is : (x : Stop) → haltOf x .ends ≡ false → haltOf x .told ≡ false → x ≡ stop.Closed
+unfolding haltOf
+closed-is stop.More e t = let z : _≡_ {A = ℕ} 0 1 = cc in absurd (omega arith)
+closed-is (stop.Refused number offset) e t = let z : _≡_ {A = ℕ} 0 1 = cc in absurd (omega arith)
+closed-is stop.Closed e t = refl
+closed-is stop.Told e t = let z : _≡_ {A = ℕ} 0 1 = cc in absurd (omega arith)
+
+told-is : (x : Stop) → haltOf x .ends ≡ false → haltOf x .told ≡ true → x ≡ stop.Told
+unfolding haltOf
+told-is stop.More e t = let z : _≡_ {A = ℕ} 0 1 = cc in absurd (omega arith)
+told-is (stop.Refused number offset) e t = let z : _≡_ {A = ℕ} 0 1 = cc in absurd (omega arith)
+told-is stop.Closed e t = let z : _≡_ {A = ℕ} 0 1 = cc in absurd (omega arith)
+told-is stop.Told e t = refl
+
+pub halt-closed : (h : Halt) (x : Stop) → h ≡ haltOf x → h .ends ≡ false → h .told ≡ false → x ≡ stop.Closed
+halt-closed h x p e t = closed-is x (ap (λ (h : Halt). h .ends) (sym p) ∙ e) (ap (λ (h : Halt). h .told) (sym p) ∙ t)
+
+pub halt-told : (h : Halt) (x : Stop) → h ≡ haltOf x → h .ends ≡ false → h .told ≡ true → x ≡ stop.Told
+halt-told h x p e t = told-is x (ap (λ (h : Halt). h .ends) (sym p) ∙ e) (ap (λ (h : Halt). h .told) (sym p) ∙ t)
 
 -- a scan without what it told
 abbrev ending : Scan → Scan
@@ -131,6 +166,23 @@ module _ (from : Reading) (s d out : List ℕ) (at put : ℕ) (st : State) (fram
       → Going from s d out₂ (r .at) p (r .state) (frames + r .frames)
   going-told p out₂ c short big ep few eo el =
       going-on (change (frames + r .frames) st (r .state)) 1024 71 p out₂ (after-told (from .tell) (from .at) frames st s r c) (run-stands .told c) (omega arith) short big ep few eo el
+
+  -- what a run has come to that ends the turn
+  stops : (x : Stop) → r .stop ≡ x → haltOf x .ends ≡ true
+      → after (from .tell) (from .at) frames st s r ≡ stopped (r .state) (from .at + r .at) (frames + r .frames) (haltOf x .refusal) (drop (r .at) s)
+  unfolding haltOf
+  stops stop.More q z = after-more (from .tell) (from .at) frames st s r q
+  stops (stop.Refused number offset) q z =
+      after-refused (from .tell) (from .at) frames st s r number offset q
+      ∙ ap (λ (k : ℕ). stopped (r .state) (from .at + k) (frames + r .frames) number (drop k s)) (run-stands .same number offset q)
+  stops stop.Closed q z = let w : _≡_ {A = ℕ} 0 1 = cc in absurd (omega arith)
+  stops stop.Told q z = let w : _≡_ {A = ℕ} 0 1 = cc in absurd (omega arith)
+
+  pub halts : (h : Halt) → h ≡ haltOf (r .stop) → h .ends ≡ true
+      → after (from .tell) (from .at) frames st s r ≡ stopped (r .state) (from .at + r .at) (frames + r .frames) (h .refusal) (drop (r .at) s)
+  halts h p z =
+      stops (r .stop) refl (ap (λ (h : Halt). h .ends) (sym p) ∙ z)
+      ∙ ap (λ (h : Halt). stopped (r .state) (from .at + r .at) (frames + r .frames) (h .refusal) (drop (r .at) s)) (sym p)
 
   -- there are no more records, or one was refused
   pub going-end : (refusal offset : ℕ) → after (from .tell) (from .at) frames st s r ≡ stopped (r .state) (from .at + offset) (frames + r .frames) refusal (drop offset s)

@@ -1,14 +1,12 @@
 -- The law of a refill: reading, a turn, writing, and keeping what was not used. Assumes nothing.
-use Prim.Native.Nat.{ℕ, _+_, _-_, _*_, _≤_, _<_}
+use Prim.Native.Nat.{ℕ, _+_, _-_, _≤_, _<_}
 use mathlib.Core.Path.{_≡_, refl, _∙_, ap, sym}
-use mathlib.Core.Bool.{Bool, true, false, cond, not, _||_}
-use mathlib.Core.List.{List, [], _∷_, _++_}
-use native.Mathlib.Nat.{zero-add}
+use mathlib.Core.Bool.{Bool, true, false, cond, _||_}
+use mathlib.Core.List.{List, _++_}
 use native.Mathlib.Omega.{arith}
 use lib.Dec.{eqb}
 use lib.ListN.{length, take, drop, length-append, length-drop}
-use lib.Seq.{take-add, take-at, drop-at, length-take-le}
-use borrow.Author.Tests.{eq-eqb, eqb-true}
+use lib.Seq.{take-add, drop-at, length-take-le}
 use Rattle.answer.specs.Over.{over}
 use Rattle.answer.proofs.Overs.{over-start}
 use Rattle.reading.specs.Turn.{Sound, turnOf, writtenOf, Refill}

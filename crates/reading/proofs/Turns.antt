@@ -1,54 +1,43 @@
 -- The laws of a turn, and the law of reading in pieces. Assumes nothing.
-use Prim.Native.Nat.{ℕ, _+_, _-_, _*_, _≤_, _<_}
+use Prim.Native.Nat.{ℕ, _+_, _-_, _≤_, _<_}
 use mathlib.Core.Path.{_≡_, refl, _∙_, ap, sym, subst⁻¹}
 use mathlib.Core.Bool.{Bool, true, false, cond, not, _||_}
 use mathlib.Core.List.{List, [], _∷_, _++_, append-assoc, append-nil}
-use native.Mathlib.Nat.{add-zero}
 use native.Mathlib.Omega.{arith}
 use lib.Dec.{eqb}
 use lib.ListN.{length, drop, length-append, length-drop}
 use borrow.Author.Tests.{eqb-true, eqb-false}
-use Rattle.answer.proofs.Cond.{by-cond}
 use Rattle.answer.specs.Over.{over}
 use Rattle.listing.proofs.Overs.{then}
-use Rattle.trace.specs.Scan.{startOf}
-use Rattle.trace.specs.Stream.{Note, Scan, before, scanFrom, scanOf, goesOn, resume, onward, joined}
-use Rattle.trace.specs.Counts.{Counted}
-use Rattle.trace.proofs.Streams.{scan-append}
-use Rattle.trace.proofs.Counts.{start-counted, Comes, comes}
-use Rattle.reading.specs.Listing.{linesOf, lastLines, tailOf, textOf, printedOf}
-use Rattle.reading.specs.Turn.{readingOf, readFrom, startReading, Sound, gatheredOf, doneOf, writtenOf, turnOf, toCome, TurnLaw, outputOf, InPieces}
+use Rattle.stream.specs.Stream.{Note, Scan, before, scanFrom, goesOn, resume, onward, joined}
+use Rattle.stream.proofs.Streams.{scan-append}
+use Rattle.stream.proofs.Counts.{start-counted, Comes, comes}
+use Rattle.reading.specs.Listing.{linesOf, tailOf, textOf, printedOf}
+use Rattle.reading.specs.Turn.{readingOf, readFrom, startReading, Sound, endingOf, writtenOf, turnOf, toCome, TurnLaw, outputOf, InPieces}
 use Rattle.reading.specs.declared.Reading.{Reading}
-use Rattle.reading.specs.declared.Gathered.{Gathered}
+use Rattle.reading.proofs.Lines.{Gathered, gatheredOf}
 use Rattle.reading.specs.declared.Turned.{Turned}
 
--- what `turn` answers, by whether the listing ends
+-- what `turn` answers
 module _ (from : Reading) (s : List ℕ) (ended : Bool) (d o : List ℕ) (text : o ≡ over d 0 (linesOf (readFrom from s .told))) where
-  c : Scan
-  c = readFrom from s
+  abbrev endOf : Gathered → Bool → List ℕ
+  endOf g more = endingOf (ended || not more) (g .refusal) (g .reading .at) (g .reading .state .sup .seconds) (g .reading .frames)
 
-  pub turn-done : (g : Gathered) → g ≡ gatheredOf from s → (ended || not (goesOn (g .refusal))) ≡ true → (p : ℕ) (o₂ : List ℕ)
-      → p ≡ g .put + length (lastLines (g .refusal) (g .reading .at) (g .reading .state .sup .seconds) (g .reading .frames))
-      → o₂ ≡ over o (g .put) (lastLines (g .refusal) (g .reading .at) (g .reading .state .sup .seconds) (g .reading .frames))
-      → (record { reading = g .reading; used = g .used; put = p; done = true } ≡ turnOf from s ended) × (o₂ ≡ over d 0 (writtenOf from s ended))
-  unfolding turnOf writtenOf
-  turn-done g e =
-      subst⁻¹ (λ (g : Gathered). (ended || not (goesOn (g .refusal))) ≡ true → (p : ℕ) (o₂ : List ℕ)
-      → p ≡ g .put + length (lastLines (g .refusal) (g .reading .at) (g .reading .state .sup .seconds) (g .reading .frames))
-      → o₂ ≡ over o (g .put) (lastLines (g .refusal) (g .reading .at) (g .reading .state .sup .seconds) (g .reading .frames))
-      → (record { reading = g .reading; used = g .used; put = p; done = true } ≡ turnOf from s ended) × (o₂ ≡ over d 0 (writtenOf from s ended))) e
-      (λ z p o₂ ep eo.
-      let l : List ℕ = linesOf (readFrom from s .told) in
-      let k : length (l ++ tailOf (readFrom from s)) ≡ p = length-append l (tailOf (readFrom from s)) ∙ sym ep in
-      rw (z, k) (refl, then d 0 (length l) l (tailOf (readFrom from s)) o o₂ (omega arith) (omega arith) text eo))
+  abbrev Turns : Gathered → Bool → Type 0
+  Turns g more = (p : ℕ) (o₂ : List ℕ) → p ≡ g .put + length (endOf g more) → o₂ ≡ over o (g .put) (endOf g more)
+      → (record { reading = g .reading; used = g .used; put = p; done = ended || not more } ≡ turnOf from s ended) × (o₂ ≡ over d 0 (writtenOf from s ended))
 
-  pub turn-more : (g : Gathered) → g ≡ gatheredOf from s → (ended || not (goesOn (g .refusal))) ≡ false
-      → (record { reading = g .reading; used = g .used; put = g .put; done = false } ≡ turnOf from s ended) × (o ≡ over d 0 (writtenOf from s ended))
+  turns : Turns (gatheredOf from s) (goesOn (readFrom from s .refusal))
   unfolding turnOf writtenOf
-  turn-more g e =
-      subst⁻¹ (λ (g : Gathered). (ended || not (goesOn (g .refusal))) ≡ false
-      → (record { reading = g .reading; used = g .used; put = g .put; done = false } ≡ turnOf from s ended) × (o ≡ over d 0 (writtenOf from s ended))) e
-      (λ z. rw (z, append-nil) (refl, text))
+  turns p o₂ ep eo =
+      let c : Scan = readFrom from s in
+      let l : List ℕ = linesOf (c .told) in
+      let t : List ℕ = endOf (gatheredOf from s) (goesOn (c .refusal)) in
+      let k : length (l ++ t) ≡ p = length-append l t ∙ sym ep in
+      rw k (refl, then d 0 (length l) l t o o₂ (omega arith) (omega arith) text eo)
+
+  pub turned : (g : Gathered) → g ≡ gatheredOf from s → (more : Bool) → more ≡ goesOn (g .refusal) → Turns g more
+  turned g e = subst⁻¹ (λ (g : Gathered). (more : Bool) → more ≡ goesOn (g .refusal) → Turns g more) e (λ more m. subst⁻¹ (Turns (gatheredOf from s)) m turns)
 
 lines-append : (a b : List Note) → linesOf (a ++ b) ≡ linesOf a ++ linesOf b
 unfolding linesOf

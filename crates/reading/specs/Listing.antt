@@ -1,26 +1,14 @@
 -- What the programs print of a trace: from the bytes of the whole input to the bytes of the whole output (document 01, "Trace records and the
 -- listing"). Assumes nothing.
-use Prim.Native.Nat.{ℕ, _+_}
+use Prim.Native.Nat.{ℕ}
 use mathlib.Core.Bool.{Bool, true, false, cond}
 use mathlib.Core.List.{List, [], _∷_, _++_}
 use lib.Dec.{eqb}
-use Rattle.listing.specs.Text.{secondLine, refusalLine, endLine}
-use Rattle.supervisor.specs.Causes.{reportOf}
-use Rattle.change.specs.declared.Shown.{Shown}
-use Rattle.change.specs.Change.{shownOf, changeLine}
-use Rattle.trace.specs.declared.State.{State}
-use Rattle.trace.specs.Stream.{Note, second, change, Scan, scanOf}
+use Rattle.listing.specs.Text.{refusalLine, endLine}
+use Rattle.lines.specs.Line.{lineFor}
+use Rattle.stream.specs.Stream.{Note, Scan, scanOf}
 
--- what a state shows: the report of what stands (its counts, which are the frame's own, left at 0) and the accepted traces
-abbrev pub shownIn : State → Shown
-shownIn st = shownOf (st .sup) (reportOf (st .standing) 0 0)
-
--- The line of what is told: of a closed second its figures; of a record what changed with it, under the open second and the frame's number there
--- and in the trace.
-unfoldable pub lineFor : Note → List ℕ
-lineFor (second figures) = secondLine figures
-lineFor (change total was is) = changeLine (is .sup .seconds + 1) (is .sup .second .frames .0) total (shownIn was) (shownIn is)
-
+-- the lines of all that is told
 unfoldable pub linesOf : List Note → List ℕ
 linesOf [] = []
 linesOf (n ∷ ns) = lineFor n ++ linesOf ns

@@ -1,17 +1,19 @@
 -- Reading in pieces: what the program does with the bytes it kept, the piece it read and the news that the input has ended; and the law that
 -- this gives what is printed of the whole. Assumes nothing.
-use Prim.Native.Nat.{ℕ, _+_, _-_, _≤_, _<_}
+use Prim.Native.Nat.{ℕ, _+_, _-_, _<_}
 use mathlib.Core.Path.{_≡_}
 use mathlib.Core.Bool.{Bool, true, false, cond, not, _||_}
 use mathlib.Core.List.{List, [], _∷_, _++_}
 use lib.ListN.{length, take, drop}
 use lib.Dec.{eqb}
 use Rattle.trace.specs.Scan.{startOf}
-use Rattle.trace.specs.Stream.{Scan, scanFrom, goesOn, joined}
-use Rattle.trace.specs.Counts.{Counted}
-use Rattle.reading.specs.Listing.{linesOf, tailOf, textOf, printedOf}
+use Rattle.stream.specs.Stream.{Scan, scanFrom, goesOn, joined}
+use Rattle.stream.specs.Counts.{Counted}
+use Rattle.reading.specs.Listing.{linesOf, lastLines, tailOf, textOf, printedOf}
 use Rattle.reading.specs.declared.Reading.{Reading}
-use Rattle.reading.specs.declared.Gathered.{Gathered}
+use Rattle.reading.specs.declared.Halt.{Halt}
+use Rattle.trace.specs.declared.Stop.{Stop}
+use Rattle.trace.specs.declared.Stop.the-variants as stop
 use Rattle.reading.specs.declared.Turned.{Turned}
 use Rattle.reading.specs.declared.Refilled.{Refilled}
 
@@ -26,19 +28,28 @@ readFrom r xs = scanFrom (r .tell) xs 0 (r .at) (r .frames) (r .state)
 abbrev pub startReading : Bool → Reading
 startReading tell = record { tell = tell; state = startOf; at = 0; frames = 0 }
 
+-- before the first refill nothing is kept
+abbrev pub startRefilled : Bool → Refilled
+startRefilled tell = record { reading = startReading tell; held = 0; ended = false }
+
 -- its offset and its count of frames are within what a trace can hold
 abbrev pub Sound : Reading → Type 0
 Sound r = Counted (r .at) (r .frames) (r .state)
 
--- the records of s taken, and the lines of what they tell gathered
-abbrev pub gatheredOf : Reading → List ℕ → Gathered
-gatheredOf r s =
-    let c : Scan = readFrom r s in
-    record { reading = readingOf (r .tell) c; used = c .at - r .at; put = length (linesOf (c .told)); refusal = c .refusal }
+-- what a stop says
+unfoldable pub haltOf : Stop → Halt
+haltOf stop.More = record { ends = true; told = false; refusal = 0 }
+haltOf (stop.Refused number offset) = record { ends = true; told = false; refusal = number }
+haltOf stop.Closed = record { ends = false; told = false; refusal = 0 }
+haltOf stop.Told = record { ends = false; told = true; refusal = 0 }
 
 -- the output ends where the input has ended, and at a refusal that more bytes would not change
 abbrev pub doneOf : Scan → Bool → Bool
 doneOf c ended = ended || not (goesOn (c .refusal))
+
+-- the last lines, where the output ends with them
+abbrev pub endingOf : Bool → ℕ → ℕ → ℕ → ℕ → List ℕ
+endingOf done refusal offset marks frames = cond done (lastLines refusal offset marks frames) []
 
 -- what is written after the bytes s: the lines of what they tell, and at the end the last lines
 unfoldable pub writtenOf : Reading → List ℕ → Bool → List ℕ

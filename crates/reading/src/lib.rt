@@ -1,6 +1,5 @@
 // Reads a trace from standard input through a buffer of 4,096 bytes and writes what it tells to standard output: the lines of its seconds, and
 // where every record is told a line for each frame at which anything changed.
-use change::Shown;
 use libc::STDIN_FILENO;
 use libc::STDOUT_FILENO;
 use trace::State;
@@ -8,12 +7,9 @@ use trace::Stop;
 ghost use mathlib.Core.Path.{_≡_};
 ghost use Prim.Native.Nat.{_+_, _*_, _≤_, _<_};
 ghost use lib.ListN.{length, take, drop};
-ghost use Rattle.trace.specs.Stream.{change, goesOn};
+ghost use Rattle.stream.specs.Stream.{goesOn};
 ghost use Rattle.answer.specs.Over.{over};
-ghost use Rattle.listing.specs.Text.{fitted};
-ghost use Rattle.change.specs.Change.{changeRoom};
-ghost use Rattle.reading.specs.Listing.{shownIn, lineFor, linesOf, lastLines};
-ghost use Rattle.reading.specs.Turn.{Sound, readFrom, gatheredOf, writtenOf, turnOf, Refill};
+ghost use Rattle.reading.specs.Turn.{Sound, startRefilled, haltOf, endingOf, writtenOf, turnOf, Refill};
 
 // Where the reading stands between two pieces: whether every record is told, the scan's state, the offset of the next record, and the frames
 // accepted.
@@ -24,11 +20,10 @@ struct Reading {
     frames: u64,
 }
 
-// The records of a piece taken: where the reading stands, the bytes used, the bytes of text gathered, and the refusal (0: none).
-struct Gathered {
-    reading: Reading,
-    used: usize,
-    put: usize,
+// What the stop of a run says: whether it ends the turn, whether a record was told (or else a second closed), and the refusal (0: none).
+struct Halt {
+    ends: bool,
+    told: bool,
     refusal: u8,
 }
 
@@ -53,107 +48,55 @@ fn wide(x: usize) -> u64
     x as u64
 }
 
-fn wide32(x: u32) -> u64
-    ensures { λ r. ⌜ (r ≡ x) × (r < 4294967296) ⌝ }
+// What a stop says.
+fn halt_of(stop: Stop) -> Halt
+    ensures { λ r. ⌜ r ≡ haltOf stop ⌝ }
 {
-    x as u64
-}
-
-// What a state shows.
-fn shown_in(st: State) -> Shown
-    ensures { λ r. ⌜ r ≡ shownIn st ⌝ }
-{
-    let sup = st.sup;
-    let standing = st.standing;
-    let report = supervisor::report_of(standing, 0, 0);
-    change::shown_of(sup, report)
-}
-
-// Puts the line of a record that was told at a place, the frames accepted with it being `total`.
-fn told_line(was: State, is: State, total: u64, out: &mut [u8], at: usize) -> usize
-    ensures { λ r. ⌜ (r ≡ at + length (fitted (length (now (out .entry))) at changeRoom (lineFor (change total was is)))) × (r ≤ at + changeRoom) × (now (out .exit) ≡ over (now (out .entry)) at (fitted (length (now (out .entry))) at changeRoom (lineFor (change total was is)))) ⌝ }
-{
-    let before = shown_in(was);
-    let after = shown_in(is);
-    let second = wide32(is.sup.seconds) + 1;
-    change::change_line(
-        second,
-        is.sup.second.frames.0,
-        total,
-        before,
-        after,
-        out,
-        at,
-    )
-}
-
-// Takes the records of s, and gathers the lines of what they tell at the start of out. 4,096 bytes have 1,024 marks at most.
-fn gather(from: Reading, s: &[u8], out: &mut [u8]) -> Gathered
-    requires { ⌜ Sound from ⌝ }
-    requires { ⌜ length (now s) ≤ 4096 ⌝ }
-    requires { ⌜ 432216 ≤ length (now out) ⌝ }
-    ensures { λ r. ⌜ (r ≡ gatheredOf from (now (s .entry))) × (now (out .exit) ≡ over (now (out .entry)) 0 (linesOf (readFrom from (now (s .entry)) .told))) × (4 * r .put ≤ 422 * length (now (s .entry))) ⌝ }
-{
-    let mut at = 0;
-    let mut put = 0;
-    let mut state = from.state;
-    let mut frames = from.frames;
-    loop {
-        let was = state;
-        let r = trace::scan(from.tell, was, s, at);
-        state = r.state;
-        at = r.at;
-        frames += wide(r.frames);
-        let stop = r.stop;
-        match stop {
-            Stop::More => {
-                return Gathered {
-                    reading: Reading {
-                        tell: from.tell,
-                        state: state,
-                        at: from.at + wide(at),
-                        frames: frames,
-                    },
-                    used: at,
-                    put: put,
-                    refusal: 0,
-                };
-            }
-            Stop::Refused { number, offset } => {
-                return Gathered {
-                    reading: Reading {
-                        tell: from.tell,
-                        state: state,
-                        at: from.at + wide(offset),
-                        frames: frames,
-                    },
-                    used: offset,
-                    put: put,
-                    refusal: number,
-                };
-            }
-            Stop::Closed => {
-                let figures = state.last;
-                put = listing::second_line(figures, out, put);
-            }
-            Stop::Told => {
-                put = told_line(was, state, frames, out, put);
-            }
-        }
+    match stop {
+        Stop::More => Halt {
+            ends: true,
+            told: false,
+            refusal: 0,
+        },
+        Stop::Refused { number, offset: _ } => Halt {
+            ends: true,
+            told: false,
+            refusal: number,
+        },
+        Stop::Closed => Halt {
+            ends: false,
+            told: false,
+            refusal: 0,
+        },
+        Stop::Told => Halt {
+            ends: false,
+            told: true,
+            refusal: 0,
+        },
     }
 }
 
-// Puts the last lines at a place of out: the refusal, if there is one, and what was accepted.
-fn finish(r: Reading, refusal: u8, out: &mut [u8], at: usize) -> usize
+// Puts the last lines at a place of out, where the output is whole with them: the refusal, if there is one, and what was accepted.
+fn finish(
+    done: bool,
+    refusal: u8,
+    offset: u64,
+    marks: u32,
+    frames: u64,
+    out: &mut [u8],
+    at: usize,
+) -> usize
     requires { ⌜ at + 88 ≤ length (now out) ⌝ }
-    ensures { λ n. ⌜ (n ≡ at + length (lastLines refusal (r .at) (r .state .sup .seconds) (r .frames))) × (now (out .exit) ≡ over (now (out .entry)) at (lastLines refusal (r .at) (r .state .sup .seconds) (r .frames))) ⌝ }
+    ensures { λ n. ⌜ (n ≡ at + length (endingOf done refusal offset marks frames)) × (now (out .exit) ≡ over (now (out .entry)) at (endingOf done refusal offset marks frames)) ⌝ }
 {
-    let marks = r.state.sup.seconds;
-    if refusal == 0 {
-        return listing::end_line(marks, r.frames, out, at);
+    if done {
+        if refusal == 0 {
+            return listing::end_line(marks, frames, out, at);
+        }
+        let p = listing::refusal_line(refusal, offset, out, at);
+        return listing::end_line(marks, frames, out, p);
     }
-    let p = listing::refusal_line(refusal, r.at, out, at);
-    listing::end_line(marks, r.frames, out, p)
+    at
 }
 
 // Whether more bytes could change a refusal: none stands, or a record is cut.
@@ -166,31 +109,50 @@ fn goes_on(refusal: u8) -> bool
     refusal == 14
 }
 
-// A turn over the kept bytes and the piece after them, which s holds.
+// A turn over the kept bytes and the piece after them, which s holds: takes the records, gathers the lines of what they tell at the start of out,
+// and puts the last lines after them where the output is whole. 4,096 bytes have 1,024 marks at most.
 fn turn(from: Reading, s: &[u8], ended: bool, out: &mut [u8]) -> Turned
     requires { ⌜ Sound from ⌝ }
     requires { ⌜ length (now s) ≤ 4096 ⌝ }
     requires { ⌜ 432216 ≤ length (now out) ⌝ }
     ensures { λ r. ⌜ (r ≡ turnOf from (now (s .entry)) ended) × (now (out .exit) ≡ over (now (out .entry)) 0 (writtenOf from (now (s .entry)) ended)) ⌝ }
 {
-    let g = gather(from, s, out);
-    let reading = g.reading;
-    let more = goes_on(g.refusal);
-    let done = ended | !more;
-    if done {
-        let put = finish(reading, g.refusal, out, g.put);
-        return Turned {
-            reading: reading,
-            used: g.used,
-            put: put,
-            done: true,
-        };
-    }
-    Turned {
-        reading: reading,
-        used: g.used,
-        put: g.put,
-        done: false,
+    let mut at = 0;
+    let mut put = 0;
+    let mut state = from.state;
+    let mut frames = from.frames;
+    loop {
+        let was = state;
+        let r = trace::scan(from.tell, was, s, at);
+        state = r.state;
+        at = r.at;
+        frames += wide(r.frames);
+        let stop = r.stop;
+        let h = halt_of(stop);
+        if h.ends {
+            let more = goes_on(h.refusal);
+            let done = ended | !more;
+            let offset = from.at + wide(at);
+            let marks = state.sup.seconds;
+            let last = finish(done, h.refusal, offset, marks, frames, out, put);
+            return Turned {
+                reading: Reading {
+                    tell: from.tell,
+                    state: state,
+                    at: offset,
+                    frames: frames,
+                },
+                used: at,
+                put: last,
+                done: done,
+            };
+        }
+        if h.told {
+            put = lines::told_line(was, state, frames, out, put);
+        } else {
+            let figures = state.last;
+            put = listing::second_line(figures, out, put);
+        }
     }
 }
 
@@ -218,26 +180,45 @@ fn fill(buf: &mut [u8], held: usize) -> usize
 
 // Refills the buffer, takes its records, writes what they give, and keeps the bytes not used. All that can be written is written before the
 // next read, so that a reader sees each second without waiting for the end; a write that fails ends the program.
-fn refill(from: Reading, held: usize, buf: &mut [u8], out: &mut [u8]) -> Refilled
-    requires { ⌜ Sound from ⌝ }
-    requires { ⌜ held < 83 ⌝ }
+fn refill(from: Refilled, buf: &mut [u8], out: &mut [u8]) -> Refilled
+    requires { ⌜ Sound (from .reading) ⌝ }
+    requires { ⌜ from .held < 83 ⌝ }
     requires { ⌜ length (now buf) ≡ 4096 ⌝ }
     requires { ⌜ 432216 ≤ length (now out) ⌝ }
-    ensures { λ r. ⌜ Refill from held (now (buf .entry)) (now (buf .exit)) r ⌝ }
+    ensures { λ r. ⌜ Refill (from .reading) (from .held) (now (buf .entry)) (now (buf .exit)) r ⌝ }
 {
+    let reading = from.reading;
+    let held = from.held;
     let got = fill(buf, held);
     let full = held + got;
-    let t = turn(from, &buf[0..full], got == 0, out);
+    let t = turn(reading, &buf[0..full], got == 0, out);
     let put = t.put;
     let sent = io::write_all(STDOUT_FILENO, &out[0..put]);
     let used = t.used;
     let left = full - used;
     shift(buf, used, left);
-    let reading = t.reading;
+    let next = t.reading;
     Refilled {
-        reading: reading,
+        reading: next,
         held: left,
         ended: t.done | !sent,
+    }
+}
+
+// Where a program starts.
+fn started(tell: bool) -> Refilled
+    ensures { λ r. ⌜ r ≡ startRefilled tell ⌝ }
+{
+    let state = trace::start();
+    Refilled {
+        reading: Reading {
+            tell: tell,
+            state: state,
+            at: 0,
+            frames: 0,
+        },
+        held: 0,
+        ended: false,
     }
 }
 
@@ -247,20 +228,11 @@ fn pump(tell: bool, buf: &mut [u8], out: &mut [u8])
     requires { ⌜ length (now buf) ≡ 4096 ⌝ }
     requires { ⌜ 432216 ≤ length (now out) ⌝ }
 {
-    let state = trace::start();
-    let mut r = Refilled {
-        reading: Reading {
-            tell: tell,
-            state: state,
-            at: 0,
-            frames: 0,
-        },
-        held: 0,
-        ended: false,
-    };
-    while !r.ended {
-        let reading = r.reading;
-        r = refill(reading, r.held, buf, out);
+    let mut r = started(tell);
+    let mut ended = false;
+    while !ended {
+        r = refill(r, buf, out);
+        ended = r.ended;
     }
 }
 

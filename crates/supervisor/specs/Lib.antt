@@ -1,10 +1,1 @@
-pub mod Causes
-pub mod Second
-pub mod Settings
-pub mod Layers
 pub mod Supervisor
-pub mod Ranges
-pub mod History
-pub mod OneCause
-pub mod Ledger
-pub mod Cases

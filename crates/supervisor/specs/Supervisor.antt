@@ -1,25 +1,24 @@
 -- The supervisor: provisioning, a frame, a mark, and reading an accepted trace (document 01). Assumes nothing.
 use Prim.Native.Nat.{ℕ, _+_}
-use mathlib.Core.Bool.{Bool, true, false, cond, _&&_}
+use mathlib.Core.Bool.{false, cond, _&&_}
 use mathlib.Core.List.{List, [], _∷_}
 use lib.Dec.{leb, ltb, eqb}
 use lib.ListN.{length, replicate}
 use Rattle.answer.specs.Checks.{Check, check, firstOf}
-use Rattle.overhead.specs.declared.Overhead.{Overhead}
 use Rattle.overhead.specs.Overhead.{overheadOf}
 use Rattle.filter.specs.Filter.{filterOf}
 use Rattle.layer.specs.declared.Layer.{Layer}
 use Rattle.layer.specs.Layer.{withDeg}
-use Rattle.supervisor.specs.Causes.{reportOf, noReport}
-use Rattle.supervisor.specs.Layers.{layersOf, standingOf, freshLayers}
-use Rattle.supervisor.specs.Second.{countOf, closedOf, figuresOf, freshSecond}
-use Rattle.supervisor.specs.Settings.{settingsRefusal, optionsOf}
-use Rattle.supervisor.specs.declared.causes.Standing.{Standing}
-use Rattle.supervisor.specs.declared.second.Second.{Second}
-use Rattle.supervisor.specs.declared.settings.Request.{Request}
-use Rattle.supervisor.specs.declared.settings.Options.{Options}
-use Rattle.supervisor.specs.declared.settings.Settings.{Settings}
-use Rattle.supervisor.specs.declared.Layers.{Layers}
+use Rattle.causes.specs.Causes.{reportOf, noReport}
+use Rattle.frame.specs.Layers.{layersOf, standingOf, freshLayers}
+use Rattle.second.specs.Second.{countOf, closedOf, figuresOf, freshSecond}
+use Rattle.settings.specs.Settings.{settingsRefusal, optionsOf}
+use Rattle.causes.specs.declared.Standing.{Standing}
+use Rattle.second.specs.declared.Second.{Second}
+use Rattle.settings.specs.declared.Request.{Request}
+use Rattle.settings.specs.declared.Options.{Options}
+use Rattle.settings.specs.declared.Settings.{Settings}
+use Rattle.frame.specs.declared.Layers.{Layers}
 use Rattle.supervisor.specs.declared.Supervisor.{Supervisor}
 use Rattle.supervisor.specs.declared.Provisioned.{Provisioned}
 use Rattle.supervisor.specs.declared.Stepped.{Stepped}

@@ -1,23 +1,21 @@
 -- Laws of `takenOf` and `runFrom`, and those of one turn of the loop of `scan`. Assumes nothing.
-use Prim.Native.Nat.{ℕ, zero, suc, pred, _+_, _-_, _≤_, _<_}
+use Prim.Native.Nat.{ℕ, zero, suc, pred, _+_, _≤_, _<_}
 use mathlib.Core.Path.{_≡_, refl, _∙_, ap, sym}
-use mathlib.Core.Bool.{Bool, true, false, cond}
+use mathlib.Core.Bool.{Bool, true, false}
 use mathlib.Core.List.{List, [], _∷_, _++_}
 use native.Mathlib.Nat.{add-zero}
 use native.Mathlib.Omega.{arith}
-use lib.Dec.{eqb}
 use lib.ListN.{length, drop, length-drop, drop-of-length-le}
 use lib.Seq.{drop-drop}
 use borrow.Author.Tests.{eq-eqb, ne-eqb}
-use Rattle.trace.specs.Record.{recordOf, recordAt, refusalOf, sizeOf, bodyOf, framesIn, Within}
+use Rattle.record.specs.Record.{recordOf, recordAt, refusalOf, sizeOf, bodyOf, framesIn, Within}
 use Rattle.trace.specs.Scan.{refusedOf, appliedOf, takenOf, runFrom, runOf}
-use Rattle.trace.specs.declared.Record.{Record}
-use Rattle.trace.specs.declared.Record.the-variants.{Frame, Mark, Provisioning, Refused}
+use Rattle.record.specs.declared.Record.{Record}
+use Rattle.record.specs.declared.Record.the-variants.{Frame, Mark, Provisioning, Refused}
 use Rattle.trace.specs.declared.State.{State}
 use Rattle.trace.specs.declared.Taken.{Taken}
-use Rattle.trace.specs.declared.Run.{Run}
 use Rattle.trace.specs.declared.Stop.the-variants as stop
-use Rattle.trace.proofs.Records.{Whole, whole-record, within-at, record-append, body-append}
+use Rattle.record.proofs.Records.{Whole, whole-record, within-at, record-append, body-append}
 
 -- an accepted record is none that is refused, and lies within; it has four bytes at least, and is one frame at most
 pub record Sized (ys : List ℕ) (r : Record) : Type 0 where

@@ -1,23 +1,20 @@
 -- A record taken, and the scan of a buffer's records (document 01, "Trace records and the listing"). Assumes nothing.
-use Prim.Native.Nat.{ℕ, zero, suc, pred, _+_, _≤_}
+use Prim.Native.Nat.{ℕ, zero, suc, pred, _+_}
 use mathlib.Core.Bool.{Bool, true, false, cond}
 use mathlib.Core.List.{List, [], _∷_}
-use lib.ListN.{length, getD, drop, take, replicate}
+use lib.ListN.{getD, drop, take, replicate}
 use lib.Dec.{eqb}
-use Rattle.supervisor.specs.declared.settings.Request.{Request}
 use Rattle.supervisor.specs.declared.Provisioned.{Provisioned}
 use Rattle.supervisor.specs.declared.Stepped.{Stepped}
-use Rattle.supervisor.specs.declared.Marked.{Marked}
-use Rattle.supervisor.specs.Causes.{nothingStands}
+use Rattle.causes.specs.Causes.{nothingStands}
 use Rattle.supervisor.specs.Supervisor.{blankSupervisor, provisionOf, stepOf, markOf}
-use Rattle.trace.specs.declared.Record.{Record}
-use Rattle.trace.specs.declared.Record.the-variants.{Frame, Mark, Provisioning, Refused}
+use Rattle.record.specs.declared.Record.{Record}
+use Rattle.record.specs.declared.Record.the-variants.{Frame, Mark, Provisioning, Refused}
 use Rattle.trace.specs.declared.State.{State}
 use Rattle.trace.specs.declared.Taken.{Taken}
 use Rattle.trace.specs.declared.Run.{Run}
-use Rattle.trace.specs.declared.Stop.{Stop}
 use Rattle.trace.specs.declared.Stop.the-variants as stop
-use Rattle.trace.specs.Record.{fourAt, recordOf, sizeOf, bodyOf, framesIn}
+use Rattle.record.specs.Record.{recordOf, sizeOf, bodyOf, framesIn, sectionIn, pathIn}
 
 -- what a scan starts with: no provisioning met, no second closed, and nothing stands
 abbrev pub startOf : State
@@ -31,14 +28,7 @@ refusedOf st n = record { refusal = n; closed = false; state = st }
 abbrev pub stepIn : State → List ℕ → Stepped
 stepIn st body = stepOf (st .sup) (take 64 body) (getD body 64 0) (getD body 65 0) (getD body 66 0)
 
--- "Kind 3, length 81: k, SM DEGThr (4), SM DEGM, PM DEGThr (4), PM DEGM, SM mode, PM mode, SM TIMActDis, PM TIMActDis, SM names (32), PM
--- names (32)."
-abbrev pub sectionIn : List ℕ → Request
-sectionIn body = record { thr = fourAt body 1; degm = getD body 5 0; mode = getD body 11 0; dis = getD body 13 0 }
-
-abbrev pub pathIn : List ℕ → Request
-pathIn body = record { thr = fourAt body 6; degm = getD body 10 0; mode = getD body 12 0; dis = getD body 14 0 }
-
+-- "Kind 3, length 81": what its body asks for, and the names
 abbrev pub provisionIn : List ℕ → Provisioned
 provisionIn body = provisionOf (getD body 0 0) (sectionIn body) (pathIn body) (take 32 (drop 15 body)) (take 32 (drop 47 body))
 

@@ -1,20 +1,11 @@
-// The records of a trace: what stands at a position, and the scan of a buffer's records.
-use supervisor::Request;
-use supervisor::Standing;
+// The records of a trace taken in a state, and the scan of a buffer's records.
+use causes::Standing;
+use record::Record;
 use supervisor::Supervisor;
 ghost use mathlib.Core.Path.{_≡_};
-ghost use Prim.Native.Nat.{_+_, _<_, _≤_};
 ghost use lib.ListN.{length, drop};
-ghost use Rattle.trace.specs.Record.{recordAt, lengthOf, ofKind, Within, twoAt, fourAt, sizeOf, bodyOf, framesIn};
-ghost use Rattle.trace.specs.Scan.{startOf, sectionIn, pathIn, framedOf, markedOf, provisionedOf, appliedOf, runOf};
-
-// One record. A body stands after the length and the kind, four bytes from the record's start.
-pub enum Record {
-    Frame,
-    Mark,
-    Provisioning,
-    Refused(u8),
-}
+ghost use Rattle.record.specs.Record.{Within, bodyOf};
+ghost use Rattle.trace.specs.Scan.{startOf, framedOf, markedOf, provisionedOf, appliedOf, runOf};
 
 // What a scan carries: whether a provisioning was met, the supervisor since, the figures of the second that was closed last, and what
 // stands after the last frame.
@@ -49,104 +40,12 @@ pub struct Run {
     pub state: State,
 }
 
-// A byte as a wide number: a call asks nothing for the cast.
-fn wide(x: u8) -> usize
-    ensures { λ r. ⌜ (r ≡ x) × (r < 256) ⌝ }
-{
-    x as usize
-}
-
-// Two bytes, the low one first.
-fn two_at(s: &[u8], at: usize) -> usize
-    requires { ⌜ at + 1 < length (now s) ⌝ }
-    ensures { λ r. ⌜ (r ≡ twoAt (now (s .entry)) at) × (r < 65536) ⌝ }
-{
-    wide(s[at]) + 256 * wide(s[at + 1])
-}
-
-// Four bytes, the low one first.
-fn four_at(s: &[u8], at: usize) -> u32
-    requires { ⌜ at + 3 < length (now s) ⌝ }
-    ensures { λ r. ⌜ r ≡ fourAt (now (s .entry)) at ⌝ }
-{
-    let low = two_at(s, at);
-    let high = two_at(s, at + 2);
-    (low + 65536 * high) as u32
-}
-
-// The record of a kind.
-fn of_kind(kind: usize) -> Record
-    ensures { λ r. ⌜ r ≡ ofKind kind ⌝ }
-{
-    if kind == 1 {
-        return Record::Frame;
-    }
-    if kind == 2 {
-        return Record::Mark;
-    }
-    if kind == 3 {
-        return Record::Provisioning;
-    }
-    Record::Refused(15)
-}
-
-// The length that a record says, 0 where it is refused.
-fn length_of(r: Record) -> usize
-    ensures { λ n. ⌜ n ≡ lengthOf r ⌝ }
-{
-    match r {
-        Record::Frame => 69,
-        Record::Mark => 2,
-        Record::Provisioning => 81,
-        Record::Refused(_) => 0,
-    }
-}
-
-// How many frames a record is.
-fn frames_in(r: Record) -> usize
-    ensures { λ n. ⌜ n ≡ framesIn r ⌝ }
-{
-    match r {
-        Record::Frame => 1,
-        Record::Mark => 0,
-        Record::Provisioning => 0,
-        Record::Refused(_) => 0,
-    }
-}
-
-// The record at a position of s; past the end of s there is none, as in a cut one.
-pub fn record_at(s: &[u8], at: usize) -> Record
-    ensures { λ r. ⌜ r ≡ recordAt (now (s .entry)) at ⌝ }
-{
-    if s.len() <= at {
-        return Record::Refused(14);
-    }
-    let left = s.len() - at;
-    if left < 4 {
-        return Record::Refused(14);
-    }
-    let said = two_at(s, at);
-    let kind = two_at(s, at + 2);
-    let r = of_kind(kind);
-    let want = length_of(r);
-    if want == 0 {
-        return Record::Refused(15);
-    }
-    if said != want {
-        return Record::Refused(15);
-    }
-    if left < want + 2 {
-        return Record::Refused(14);
-    }
-    r
-}
-
 // What a scan starts with.
 pub fn start() -> State
     ensures { λ r. ⌜ r ≡ startOf ⌝ }
 {
     let none = supervisor::blank();
-    let nothing = supervisor::nothing();
+    let nothing = causes::nothing();
     State {
         begun: false,
         sup: none,
@@ -211,33 +110,6 @@ fn take_mark(st: State) -> Taken
     }
 }
 
-// What a provisioning asks for the section and for the path.
-fn section_in(body: &[u8]) -> Request
-    requires { ⌜ length (now body) ≡ 79 ⌝ }
-    ensures { λ r. ⌜ r ≡ sectionIn (now (body .entry)) ⌝ }
-{
-    let thr = four_at(body, 1);
-    Request {
-        thr: thr,
-        degm: body[5],
-        mode: body[11],
-        dis: body[13],
-    }
-}
-
-fn path_in(body: &[u8]) -> Request
-    requires { ⌜ length (now body) ≡ 79 ⌝ }
-    ensures { λ r. ⌜ r ≡ pathIn (now (body .entry)) ⌝ }
-{
-    let thr = four_at(body, 6);
-    Request {
-        thr: thr,
-        degm: body[10],
-        mode: body[12],
-        dis: body[14],
-    }
-}
-
 fn take_provisioning(st: State, body: &[u8]) -> Taken
     requires { ⌜ length (now body) ≡ 79 ⌝ }
     ensures { λ t. ⌜ t ≡ provisionedOf st (now (body .entry)) ⌝ }
@@ -251,8 +123,8 @@ fn take_provisioning(st: State, body: &[u8]) -> Taken
     }
     let last = st.last;
     let standing = st.standing;
-    let section = section_in(body);
-    let path = path_in(body);
+    let section = record::section_in(body);
+    let path = record::path_in(body);
     let a = supervisor::provision(body[0], section, path, &body[15..47], &body[47..79]);
     let next = a.supervisor;
     Taken {
@@ -303,7 +175,7 @@ pub fn scan(tell: bool, st: State, s: &[u8], from: usize) -> Run
         if s.len() <= at {
             break Stop::More;
         }
-        let rec = record_at(s, at);
+        let rec = record::record_at(s, at);
         let Record::Refused(no) = rec else {
             let t = applied(state, rec, s, at);
             if t.refusal != 0 {
@@ -313,8 +185,8 @@ pub fn scan(tell: bool, st: State, s: &[u8], from: usize) -> Run
                 };
             }
             state = t.state;
-            frames += frames_in(rec);
-            at += length_of(rec) + 2;
+            frames += record::frames_in(rec);
+            at += record::length_of(rec) + 2;
             if t.closed {
                 break Stop::Closed;
             }

@@ -2,20 +2,15 @@ use Rattle.alignment.specs.Alignment.{framesOf}
 use borrow.Author.Tests.{eq-eqb, ne-eqb}
 use Rattle.alignment.proofs.frames_of.Statement.{statement}
 use Rattle.alignment.proofs.frames_of.Tie as tie
-use Rattle.alignment.proofs.frames_of.Reads as reads
-use Rattle.alignment.proofs.frames_of.Lts as lts
 
--- src/lib.rt:41:9
 returns : tie.Need-returns
 unfolding framesOf
 returns c = simp (eq-eqb _ _ (c .if1 .taken))
 
--- src/lib.rt:44:9
 returns-2 : tie.Need-returns-2
 unfolding framesOf
 returns-2 c = simp (ne-eqb _ _ (c .before .if1 .left), eq-eqb _ _ (c .if2 .taken))
 
--- src/lib.rt:37:1
 returns-3 : tie.Need-returns-3
 unfolding framesOf
 returns-3 c = simp (ne-eqb _ _ (c .before .if1 .left), ne-eqb _ _ (c .if2 .left))

@@ -3,35 +3,26 @@ use borrow.Author.Tests.{eq-eqb, ne-eqb}
 use borrow.Author.Needs.{needs}
 use Rattle.alignment.proofs.framing_step.Statement.{statement}
 use Rattle.alignment.proofs.framing_step.Tie as tie
-use Rattle.alignment.proofs.framing_step.Reads as reads
-use Rattle.alignment.proofs.framing_step.Lts as lts
-use Rattle.filter.proofs.up.Reads as up-reads
 
--- src/lib.rt:54:13
 returns : tie.Need-returns
 unfolding framingOf
 returns c = simp (c .before .if1 .taken, c .if2 .taken)
 
--- src/lib.rt:60:13
 up-requires : tie.Need-up-requires
 up-requires c κs = search needs
 
--- src/lib.rt:62:13
 returns-2 : tie.Need-returns-2
 unfolding framingOf
 returns-2 c = simp (← c .before .up .ensures, c .before .before .before .if1 .taken, c .before .before .if2 .left, eq-eqb _ _ (c .if3 .taken))
 
--- src/lib.rt:68:9
 returns-3 : tie.Need-returns-3
 unfolding framingOf
 returns-3 c = simp (← c .before .up .ensures, c .before .before .before .if1 .taken, c .before .before .if2 .left, ne-eqb _ _ (c .if3 .left))
 
--- src/lib.rt:75:9
 returns-4 : tie.Need-returns-4
 unfolding framingOf
 returns-4 c = simp (c .before .before .if1 .left, c .if4 .taken)
 
--- src/lib.rt:49:1
 returns-5 : tie.Need-returns-5
 unfolding framingOf
 returns-5 c = simp (c .before .before .if1 .left, c .if4 .left)

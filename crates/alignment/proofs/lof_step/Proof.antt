@@ -3,29 +3,21 @@ use borrow.Author.Tests.{eq-eqb, ne-eqb}
 use borrow.Author.Needs.{needs}
 use Rattle.alignment.proofs.lof_step.Statement.{statement}
 use Rattle.alignment.proofs.lof_step.Tie as tie
-use Rattle.alignment.proofs.lof_step.Reads as reads
-use Rattle.alignment.proofs.lof_step.Lts as lts
-use Rattle.filter.proofs.up.Reads as up-reads
 
--- src/lib.rt:92:13
 up-requires : tie.Need-up-requires
 up-requires c κs = search needs
 
--- src/lib.rt:94:13
 returns : tie.Need-returns
 unfolding lofOf
 returns c = simp (← c .before .up .ensures, c .before .before .if1 .taken, eq-eqb _ _ (c .if2 .taken))
 
--- src/lib.rt:99:9
 returns-2 : tie.Need-returns-2
 unfolding lofOf
 returns-2 c = simp (← c .before .up .ensures, c .before .before .if1 .taken, ne-eqb _ _ (c .if2 .left))
 
--- src/lib.rt:104:9
 up-requires-2 : tie.Need-up-requires-2
 up-requires-2 c κs = search needs
 
--- src/lib.rt:88:1
 returns-3 : tie.Need-returns-3
 unfolding lofOf
 returns-3 c = simp (← c .up2 .ensures, c .before .if1 .left)

@@ -2,20 +2,14 @@ use Rattle.alignment.specs.Alignment.{lomOf}
 use borrow.Author.Needs.{needs}
 use Rattle.alignment.proofs.lom_step.Statement.{statement}
 use Rattle.alignment.proofs.lom_step.Tie as tie
-use Rattle.alignment.proofs.lom_step.Reads as reads
-use Rattle.alignment.proofs.lom_step.Lts as lts
-use Rattle.filter.proofs.up.Reads as up-reads
 
--- src/lib.rt:176:9
 returns : tie.Need-returns
 unfolding lomOf
 returns c = simp (c .if1 .taken)
 
--- src/lib.rt:178:5
 up-requires : tie.Need-up-requires
 up-requires c κs = search needs
 
--- src/lib.rt:172:1
 returns-2 : tie.Need-returns-2
 unfolding lomOf
 returns-2 c = simp (← c .up .ensures, c .before .if1 .left)

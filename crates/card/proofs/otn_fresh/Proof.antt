@@ -4,41 +4,29 @@ use Rattle.card.proofs.Calls.{fresh-17, fresh-done, fresh-refused}
 use borrow.Author.Needs.{needs}
 use Rattle.card.proofs.otn_fresh.Statement.{statement}
 use Rattle.card.proofs.otn_fresh.Tie as tie
-use Rattle.card.proofs.otn_fresh.Reads as reads
-use Rattle.card.proofs.otn_fresh.Lts as lts
-use Rattle.card.proofs.store.Reads as store-reads
-use Rattle.card.proofs.wide.Reads as wide-reads
-use Rattle.supervisor.proofs.provision.Reads as provision-reads
 
--- src/lib.rt:47:13
 provision-requires : tie.Need-provision-requires
 provision-requires c κs = search needs
 
--- src/lib.rt:50:13
 store-requires : tie.Need-store-requires
 store-requires c κs = search needs
 
--- src/lib.rt:51:13
 same-length : tie.Need-same-length
 same-length c = search needs
 
--- src/lib.rt:51:13
 returns : tie.Need-returns
 returns c =
     let a = c .before .before .before .before .before .before .before .before .before .before .before .before .args in
     fresh-done (now (a .sup)) (provisionBy (a .k) (a .smthr) (a .smdegm) (a .pmthr) (a .pmdegm) (a .smmode) (a .pmmode) (a .smdis) (a .pmdis) (now (a .smnames)) (now (a .pmnames))) _ (c .before .before .before .before .before .before .before .before .if1 .taken) (c .before .before .before .before .before .before .before .provision .ensures) _ (c .before .before .before .before .before .if2 .taken) (c .before .before .store .ensures)
 
--- src/lib.rt:53:9
 wide-requires : tie.Need-wide-requires
 wide-requires c κs = search needs
 
--- src/lib.rt:53:9
 returns-2 : tie.Need-returns-2
 returns-2 c =
     let a = c .before .before .before .before .before .before .before .before .args in
     fresh-refused (now (a .sup)) (provisionBy (a .k) (a .smthr) (a .smdegm) (a .pmthr) (a .pmdegm) (a .smmode) (a .pmmode) (a .smdis) (a .pmdis) (now (a .smnames)) (now (a .pmnames))) _ (c .before .before .before .before .if1 .taken) (c .before .before .before .provision .ensures) _ (c .before .if2 .left) (c .wide .ensures)
 
--- src/lib.rt:17:1
 returns-3 : tie.Need-returns-3
 returns-3 c =
     let a = c .before .before .before .before .args in

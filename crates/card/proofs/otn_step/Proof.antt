@@ -1,68 +1,48 @@
-use mathlib.Core.Path.{_≡_, refl, sym, ap, _∙_}
+use mathlib.Core.Path.{sym, _∙_}
 use denote.Ref.{now}
 use Rattle.card.proofs.Calls.{sound-long, step-bad, step-done, step-refused}
 use borrow.Author.Needs.{needs}
 use Rattle.card.proofs.otn_step.Statement.{statement}
 use Rattle.card.proofs.otn_step.Tie as tie
-use Rattle.card.proofs.otn_step.Reads as reads
-use Rattle.card.proofs.otn_step.Lts as lts
-use Rattle.card.proofs.image.is_sound.Reads as is-sound-reads
-use Rattle.card.proofs.load.Reads as load-reads
-use Rattle.card.proofs.store.Reads as store-reads
-use Rattle.card.proofs.report.report_word.Reads as report-word-reads
-use Rattle.card.proofs.wide.Reads as wide-reads
-use Rattle.supervisor.proofs.step.Reads as step-reads
 
--- src/lib.rt:63:8
 is-sound-requires : tie.Need-is-sound-requires
 is-sound-requires c κs = search needs
 
--- src/lib.rt:64:13
 load-requires : tie.Need-load-requires
 load-requires c κs = sound-long (now (c .before .before .before .before .before .before .args .sup)) (sym (c .before .before .is-sound .ensures) ∙ c .before .if1 .taken)
 
--- src/lib.rt:65:13
 step-requires : tie.Need-step-requires
 step-requires c κs = search needs
 
--- src/lib.rt:69:13
 store-requires : tie.Need-store-requires
 store-requires c κs = sound-long (now (c .before .before .before .before .before .before .before .before .before .before .before .before .before .args .sup)) (sym (c .before .before .before .before .before .before .before .before .before .is-sound .ensures) ∙ c .before .before .before .before .before .before .before .before .if1 .taken)
 
--- src/lib.rt:70:13
 report-word-requires : tie.Need-report-word-requires
 report-word-requires c κs = search needs
 
--- src/lib.rt:70:13
 same-length : tie.Need-same-length
 same-length c = search needs
 
--- src/lib.rt:70:13
 returns : tie.Need-returns
 returns c =
     let a = c .before .before .before .before .before .before .before .before .before .before .before .before .before .before .before .before .before .args in
     let t = sym (c .before .before .before .before .before .before .before .before .before .before .before .before .before .is-sound .ensures) ∙ c .before .before .before .before .before .before .before .before .before .before .before .before .if1 .taken in
     step-done (now (a .sup)) (now (a .overhead)) (a .flags) (a .sm) (a .pm) _ _ (c .before .before .before .before .before .before .before .before .before .before .load .ensures) t (c .before .before .before .before .before .before .before .before .before .step .ensures) _ _ (c .before .before .before .before .before .before .before .if2 .taken) (c .report-word .ensures) (c .before .before .before .store .ensures)
 
--- src/lib.rt:72:9
 wide-requires : tie.Need-wide-requires
 wide-requires c κs = search needs
 
--- src/lib.rt:72:9
 same-length-2 : tie.Need-same-length-2
 same-length-2 c = search needs
 
--- src/lib.rt:72:9
 returns-2 : tie.Need-returns-2
 returns-2 c =
     let a = c .before .before .before .before .before .before .before .before .before .before .before .args in
     step-refused (now (a .sup)) (now (a .overhead)) (a .flags) (a .sm) (a .pm) _ _ (c .before .before .before .before .load .ensures) (sym (c .before .before .before .before .before .before .before .is-sound .ensures) ∙ c .before .before .before .before .before .before .if1 .taken) (c .before .before .before .step .ensures) _ (c .before .if2 .left) (c .wide .ensures)
 
--- src/lib.rt:59:1
 same-length-3 : tie.Need-same-length-3
 same-length-3 c = search needs
 
--- src/lib.rt:59:1
 returns-3 : tie.Need-returns-3
 returns-3 c =
     let a = c .before .before .before .before .before .args in

@@ -1,52 +1,35 @@
 use lib.ListN.{length}
-use mathlib.Core.Path.{_≡_, refl, sym, ap, _∙_}
+use mathlib.Core.Path.{_≡_, refl, sym, _∙_}
 use denote.Ref.{now}
 use Rattle.card.proofs.Calls.{sound-long, trace-bad, trace-done, trace-refused}
 use borrow.Author.Needs.{needs}
 use Rattle.card.proofs.otn_trace.Statement.{statement}
 use Rattle.card.proofs.otn_trace.Tie as tie
-use Rattle.card.proofs.otn_trace.Reads as reads
-use Rattle.card.proofs.otn_trace.Lts as lts
-use Rattle.answer.proofs.checked.Reads as checked-reads
-use Rattle.card.proofs.image.is_sound.Reads as is-sound-reads
-use Rattle.card.proofs.load.Reads as load-reads
-use Rattle.card.proofs.wide.Reads as wide-reads
-use Rattle.codec.proofs.pour.Reads as pour-reads
-use Rattle.supervisor.proofs.trace_of.Reads as trace-of-reads
 
--- src/lib.rt:103:8
 is-sound-requires : tie.Need-is-sound-requires
 is-sound-requires c κs = search needs
 
--- src/lib.rt:104:13
 load-requires : tie.Need-load-requires
 load-requires c κs = sound-long (now (c .before .before .before .before .args .sup)) (sym (c .before .is-sound .ensures) ∙ c .if1 .taken)
 
--- src/lib.rt:105:13
 trace-of-requires : tie.Need-trace-of-requires
 trace-of-requires c κs = search needs
 
--- src/lib.rt:106:13
 checked-requires : tie.Need-checked-requires
 checked-requires c κs = search needs
 
--- src/lib.rt:107:13
 checked-requires-2 : tie.Need-checked-requires-2
 checked-requires-2 c κs = search needs
 
--- src/lib.rt:110:30
 slice-aggregate-pour : tie.Need-slice-aggregate-pour
 slice-aggregate-pour c = search needs
 
--- src/lib.rt:110:13
 pour-requires : tie.Need-pour-requires
 pour-requires c κs = search needs
 
--- src/lib.rt:111:13
 same-length : tie.Need-same-length
 same-length c = search needs
 
--- src/lib.rt:111:13
 returns : tie.Need-returns
 returns c =
     let a = c .before .before .before .before .before .before .before .before .before .before .before .before .before .before .before .args in
@@ -54,17 +37,14 @@ returns c =
     let g : length (t .result .trace) ≡ 64 = search needs in
     trace-done (now (a .sup)) (a .layer) (now (a .out)) _ (t .result) _ _ (c .before .before .before .before .before .before .before .before .before .before .load .ensures) (sym (c .before .before .before .before .before .before .before .before .before .before .before .before .is-sound .ensures) ∙ c .before .before .before .before .before .before .before .before .before .before .before .if1 .taken) (t .ensures) (c .before .before .before .before .before .before .before .before .checked .ensures) (c .before .before .before .before .before .before .before .checked2 .ensures) _ _ (c .before .before .before .before .before .before .if2 .taken) refl g (c .before .before .pour .ensures)
 
--- src/lib.rt:113:9
 wide-requires : tie.Need-wide-requires
 wide-requires c κs = search needs
 
--- src/lib.rt:113:9
 returns-2 : tie.Need-returns-2
 returns-2 c =
     let a = c .before .before .before .before .before .before .before .before .before .before .args in
     trace-refused (now (a .sup)) (a .layer) (now (a .out)) _ _ _ _ (c .before .before .before .before .before .load .ensures) (sym (c .before .before .before .before .before .before .before .is-sound .ensures) ∙ c .before .before .before .before .before .before .if1 .taken) (c .before .before .before .before .trace-of .ensures) (c .before .before .before .checked .ensures) (c .before .before .checked2 .ensures) _ (c .before .if2 .left) (c .wide .ensures)
 
--- src/lib.rt:99:1
 returns-3 : tie.Need-returns-3
 returns-3 c =
     let a = c .before .before .before .before .args in

@@ -10,20 +10,13 @@ use native.Mathlib.Omega.{arith}
 use borrow.Author.Needs.{needs}
 use Rattle.change.proofs.change_line.Statement.{statement}
 use Rattle.change.proofs.change_line.Tie as tie
-use Rattle.change.proofs.change_line.Reads as reads
-use Rattle.change.proofs.change_line.Lts as lts
-use Rattle.change.proofs.put_changes.Reads as put-changes-reads
-use Rattle.change.proofs.put_line.Reads as put-line-reads
 
--- src/lib.rt:332:40
 slice-aggregate-put-changes : tie.Need-slice-aggregate-put-changes
 slice-aggregate-put-changes c = search needs
 
--- src/lib.rt:332:9
 put-changes-requires : tie.Need-put-changes-requires
 put-changes-requires c κs = search needs
 
--- src/lib.rt:334:9
 returns : tie.Need-returns
 returns c =
     let a = c .before .before .before .before .before .args in
@@ -31,45 +24,36 @@ returns c =
     let z = nothing (a .second) (a .frame) (a .total) (a .before) (a .after) (now (a .out)) (a .at) 1024 (omega (arith, u .ensures .place, c .if1 .taken)) in
     (z .0, omega arith, z .1)
 
--- src/lib.rt:337:9
 returns-2 : tie.Need-returns-2
 returns-2 c =
     let a = c .before .before .before .before .before .before .args in
     let z = fits-not (now (a .out)) (a .at) 1024 (changeLine (a .second) (a .frame) (a .total) (a .before) (a .after)) (omega (arith, c .if2 .taken)) in
     (z .0, omega arith, z .1)
 
--- src/lib.rt:339:8
 sub-if3 : tie.Need-sub-if3
 sub-if3 c = search needs
 
--- src/lib.rt:340:9
 returns-3 : tie.Need-returns-3
 returns-3 c =
     let a = c .before .before .before .before .before .before .before .args in
     let z = fits-not (now (a .out)) (a .at) 1024 (changeLine (a .second) (a .frame) (a .total) (a .before) (a .after)) (omega (arith, c .if3 .taken, c .before .if2 .left)) in
     (z .0, omega arith, z .1)
 
--- src/lib.rt:342:36
 sub-put-line : tie.Need-sub-put-line
 sub-put-line c = search needs
 
--- src/lib.rt:342:36
 part-put-line-start : tie.Need-part-put-line-start
 part-put-line-start c = search needs
 
--- src/lib.rt:342:36
 part-put-line-end : tie.Need-part-put-line-end
 part-put-line-end c = search needs
 
--- src/lib.rt:342:5
 put-line-requires : tie.Need-put-line-requires
 put-line-requires c κs = search needs
 
--- src/lib.rt:328:1
 same-length : tie.Need-same-length
 same-length c = search needs
 
--- src/lib.rt:328:1
 returns-4 : tie.Need-returns-4
 returns-4 c =
     let a = c .before .before .before .before .before .before .before .before .before .before .before .before .before .args in

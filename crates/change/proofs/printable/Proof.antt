@@ -1,15 +1,11 @@
 use Rattle.change.specs.Change.{printableOf}
 use Rattle.change.proofs.printable.Statement.{statement}
 use Rattle.change.proofs.printable.Tie as tie
-use Rattle.change.proofs.printable.Reads as reads
-use Rattle.change.proofs.printable.Lts as lts
 
--- src/lib.rt:211:9
 returns : tie.Need-returns
 unfolding printableOf
 returns c = simp (c .if1 .taken)
 
--- src/lib.rt:207:1
 returns-2 : tie.Need-returns-2
 unfolding printableOf
 returns-2 c = simp (c .if1 .left)

@@ -1,50 +1,64 @@
-use Rattle.change.proofs.Wrotes.{wrote-then}
+use Rattle.listing.proofs.Wrotes.{wrote-then, wrote-fitted}
+use Rattle.conditions.proofs.Changes.{changes-short}
+use Rattle.conditions.specs.Conditions.{conditionChanges}
 use Rattle.change.specs.Change.{allChanges}
+use native.Mathlib.Omega.{arith}
+use denote.Ref.{now}
 use borrow.Author.Needs.{needs}
 use Rattle.change.proofs.put_changes.Statement.{statement}
 use Rattle.change.proofs.put_changes.Tie as tie
-use Rattle.change.proofs.put_changes.Reads as reads
-use Rattle.change.proofs.put_changes.Lts as lts
-use Rattle.change.proofs.put_conditions.Reads as put-conditions-reads
-use Rattle.change.proofs.put_head.Reads as put-head-reads
-use Rattle.change.proofs.put_trace.Reads as put-trace-reads
 
--- src/lib.rt:284:9
 put-conditions-requires : tie.Need-put-conditions-requires
 put-conditions-requires c κs = search needs
 
--- src/lib.rt:285:9
 put-head-requires : tie.Need-put-head-requires
-put-head-requires c κs = search needs
+put-head-requires c κs =
+    let s = c .before .before .before .before .before .before in
+    let a = s .args in
+    let p = c .before .before .before .put-conditions in
+    let l = changes-short (a .before .report) (a .after .report) in
+    let x = wrote-fitted 380 (a .at) (p .result) 380 (now (a .out)) (p .last .1 .1 .0) (conditionChanges (a .before .report) (a .after .report)) (omega (arith, s .pre)) l l (p .ensures) in
+    omega (arith, s .pre, x .place, x .bound, p .kept .1 .1 .0)
 
--- src/lib.rt:286:24
 slice-aggregate-put-trace : tie.Need-slice-aggregate-put-trace
 slice-aggregate-put-trace c = search needs
 
--- src/lib.rt:286:9
 put-trace-requires : tie.Need-put-trace-requires
-put-trace-requires c κs = search needs
+put-trace-requires c κs =
+    let s = c .before .before .before .before .before .before .before .before .before .before .before in
+    let a = s .args in
+    let p = c .before .before .before .before .before .before .before .before .put-conditions in
+    let l = changes-short (a .before .report) (a .after .report) in
+    let x = wrote-fitted 380 (a .at) (p .result) 380 (now (a .out)) (p .last .1 .1 .0) (conditionChanges (a .before .report) (a .after .report)) (omega (arith, s .pre)) l l (p .ensures) in
+    let q = c .before .before .before .before .put-head in
+    (omega arith, omega (arith, s .pre, x .place, x .bound, p .kept .1 .1 .0, q .ensures .place, q .ensures .bound, q .kept .1 .1 .0))
 
--- src/lib.rt:287:15
 slice-aggregate-put-trace-2 : tie.Need-slice-aggregate-put-trace-2
 slice-aggregate-put-trace-2 c = search needs
 
--- src/lib.rt:287:5
 put-trace-requires-2 : tie.Need-put-trace-requires-2
-put-trace-requires-2 c κs = search needs
+put-trace-requires-2 c κs =
+    let s = c .before .before .before .before .before .before .before .before .before .before .before .before .before .before .before .before in
+    let a = s .args in
+    let p = c .before .before .before .before .before .before .before .before .before .before .before .before .before .put-conditions in
+    let l = changes-short (a .before .report) (a .after .report) in
+    let x = wrote-fitted 380 (a .at) (p .result) 380 (now (a .out)) (p .last .1 .1 .0) (conditionChanges (a .before .report) (a .after .report)) (omega (arith, s .pre)) l l (p .ensures) in
+    let q = c .before .before .before .before .before .before .before .before .before .put-head in
+    let r = c .before .before .before .before .put-trace in
+    (omega arith, omega (arith, s .pre, x .place, x .bound, p .kept .1 .1 .0, q .ensures .place, q .ensures .bound, q .kept .1 .1 .0, r .ensures .place, r .ensures .bound, r .kept .1 .1 .1 .0))
 
--- src/lib.rt:280:1
 same-length : tie.Need-same-length
 same-length c = search needs
 
--- src/lib.rt:280:1
 returns : tie.Need-returns
 unfolding allChanges
 returns c =
-    wrote-then (c .before .before .before .before .before .before .before .before .before .before .before .before .before .before .before .before .put-conditions .ensures)
-    (wrote-then (c .before .before .before .before .before .before .before .before .before .before .before .before .put-head .ensures)
-    (wrote-then (c .before .before .before .before .before .before .before .put-trace .ensures)
-    (c .before .before .put-trace2 .ensures)))
+    let s = c .before .before .before .before .before .before .before .before .before .before .before .before .before .before .before .before .before .before .before in
+    let a = s .args in
+    let p = c .before .before .before .before .before .before .before .before .before .before .before .before .before .before .before .before .put-conditions in
+    let l = changes-short (a .before .report) (a .after .report) in
+    let x = wrote-fitted 380 (a .at) (p .result) 380 (now (a .out)) (p .last .1 .1 .0) (conditionChanges (a .before .report) (a .after .report)) (omega (arith, s .pre)) l l (p .ensures) in
+    wrote-then x (wrote-then (c .before .before .before .before .before .before .before .before .before .before .before .before .put-head .ensures) (wrote-then (c .before .before .before .before .before .before .before .put-trace .ensures) (c .before .before .put-trace2 .ensures)))
 
 pub put-changes-spec : {M : Type 1} → statement M
 put-changes-spec =

@@ -1,53 +1,58 @@
-use Rattle.change.proofs.Wrotes.{wrote-then, wrote-more}
-use Rattle.change.specs.Change.{frameLine}
+use Rattle.listing.proofs.Overs.{fields-length}
+use Rattle.listing.proofs.Wrotes.{wrote-then, wrote-more, wrote-text, wrote-fitted}
+use Rattle.listing.specs.Bytes.{bytes}
+use Rattle.listing.specs.Text.{startOf}
+use Rattle.change.specs.Change.{beginningOf, frameLine}
 use lib.ListN.{length}
-use denote.Ref.{now}
+use mathlib.Core.List.{[], _∷_}
 use Prim.Native.Nat.{_+_}
 use native.Mathlib.Omega.{arith}
+use denote.Ref.{now}
 use borrow.Author.Needs.{needs}
 use Rattle.change.proofs.put_line.Statement.{statement}
 use Rattle.change.proofs.put_line.Tie as tie
-use Rattle.change.proofs.put_line.Reads as reads
-use Rattle.change.proofs.put_line.Lts as lts
-use Rattle.change.proofs.put.Reads as put-reads
-use Rattle.change.proofs.put_beginning.Reads as put-beginning-reads
 
--- src/lib.rt:321:9
-put-beginning-requires : tie.Need-put-beginning-requires
-put-beginning-requires c κs = search needs
+wide-requires : tie.Need-wide-requires
+wide-requires c κs = search needs
 
--- src/lib.rt:322:9
-put-requires : tie.Need-put-requires
-put-requires c κs = search needs
+put-start-requires : tie.Need-put-start-requires
+put-start-requires c κs = search needs
 
--- src/lib.rt:323:9
-slice-aggregate-put : tie.Need-slice-aggregate-put
-slice-aggregate-put c = search needs
+put-text-requires : tie.Need-put-text-requires
+put-text-requires c κs = search needs
 
--- src/lib.rt:323:5
-put-requires-2 : tie.Need-put-requires-2
-put-requires-2 c κs = search needs
+slice-aggregate-put-text : tie.Need-slice-aggregate-put-text
+slice-aggregate-put-text c = search needs
 
--- src/lib.rt:317:1
+put-text-requires-2 : tie.Need-put-text-requires-2
+put-text-requires-2 c κs = search needs
+
 same-length : tie.Need-same-length
 same-length c = search needs
 
--- src/lib.rt:317:1
 returns : tie.Need-returns
-unfolding frameLine
+unfolding frameLine beginningOf
 returns c =
-    wrote-more (65 + length (now (c .before .before .before .before .before .before .before .before .before .before .before .before .before .before .before .args .changes))) (omega arith)
-    (wrote-then (c .before .before .before .before .before .before .before .before .before .before .before .put-beginning .ensures)
-    (wrote-then (c .before .before .before .before .before .before .before .put .ensures)
-    (c .before .before .put2 .ensures)))
+    let s = c .before .before .before .before .before .before .before .before .before .before .before .before .before .before .before .before in
+    let a = s .args in
+    let w = c .before .before .before .before .before .before .before .before .before .before .before .before .before .wide in
+    let p = c .before .before .before .before .before .before .before .before .before .before .before .put-start in
+    let q = c .before .before .before .before .before .before .before .put-text in
+    let ns = a .second ∷ w .result ∷ a .total ∷ [] in
+    let l = fields-length ns in
+    let x = wrote-fitted 64 (a .at) (p .result) 64 (now (a .out)) (p .last .1 .1 .0) (startOf 70 ns) (omega (arith, s .pre)) (omega arith) (omega arith) (p .ensures) in
+    let y = wrote-text (p .last .1 .1 .0) (p .result) (now (a .changes)) (omega (arith, s .pre, x .place, x .bound, p .kept .1 .1 .0)) (q .ensures) in
+    let z = wrote-text (q .last .1 .0) (q .result) (bytes "\n") (omega (arith, s .pre, x .place, x .bound, y .place, p .kept .1 .1 .0, q .kept .1 .0)) (c .before .before .put-text2 .ensures) in
+    rw (← w .ensures) (wrote-more (65 + length (now (a .changes))) (omega arith) (wrote-then x (wrote-then y z)))
 
 pub put-line-spec : {M : Type 1} → statement M
 put-line-spec =
     tie.close
     (tie.spec
-    put-beginning-requires
-    put-requires
-    slice-aggregate-put
-    put-requires-2
+    wide-requires
+    put-start-requires
+    put-text-requires
+    slice-aggregate-put-text
+    put-text-requires-2
     same-length
     returns)

@@ -1,21 +1,16 @@
 use Rattle.change.proofs.Readable.{readable-length, readable-at}
-use Rattle.change.specs.Change.{printableOf, readableOf}
-use Rattle.change.specs.Wrote.{Wrote}
+use Rattle.change.specs.Change.{readableOf}
 use Rattle.answer.proofs.Overs.{over-nil, over-suc}
 use Rattle.answer.specs.Over.{over}
-use lib.ListN.{length, getD, set, take, length-set}
+use lib.ListN.{length, getD, take, length-set}
 use lib.Seq.{take-all}
 use denote.Ref.{now}
 use mathlib.Core.Path.{_≡_, refl, _∙_, ap, sym}
-use mathlib.Core.List.{List}
-use Prim.Native.Nat.{ℕ, _-_, _≤_, _+_}
+use Prim.Native.Nat.{_-_, _≤_}
 use native.Mathlib.Omega.{arith}
 use borrow.Author.Needs.{needs}
 use Rattle.change.proofs.put_readable.Statement.{statement}
 use Rattle.change.proofs.put_readable.Tie as tie
-use Rattle.change.proofs.put_readable.Reads as reads
-use Rattle.change.proofs.put_readable.Lts as lts
-use Rattle.change.proofs.printable.Reads as printable-reads
 
 abbrev Inv-loop : tie.InvT-loop
 Inv-loop out₀ at trace i₀ out i = (i ≤ 64) × (length out ≡ length out₀) × (out ≡ over out₀ at (take i (readableOf trace)))
@@ -23,35 +18,27 @@ Inv-loop out₀ at trace i₀ out i = (i ≤ 64) × (length out ≡ length out�
 abbrev μ-loop : tie.MeasureT-loop
 μ-loop out₀ at trace i₀ out i = 64 - i
 
--- src/lib.rt:229:5
 loop-holds : tie.Need-loop-holds Inv-loop μ-loop
 loop-holds c = (omega arith, refl, over-nil (now (c .before .args .out)) (c .before .args .at))
 
--- src/lib.rt:230:33
 array-read-printable : tie.Need-array-read-printable Inv-loop μ-loop
 array-read-printable c = search needs
 
--- src/lib.rt:230:23
 printable-requires : tie.Need-printable-requires Inv-loop μ-loop
 printable-requires c κs = search needs
 
--- src/lib.rt:230:13
 add-out : tie.Need-add-out Inv-loop μ-loop
 add-out c = search needs
 
--- src/lib.rt:230:9
 slice-write-out : tie.Need-slice-write-out Inv-loop μ-loop
 slice-write-out c = search needs
 
--- src/lib.rt:231:9
 add-i : tie.Need-add-i Inv-loop μ-loop
 add-i c = search needs
 
--- src/lib.rt:229:5
 loop-less : tie.Need-loop-less Inv-loop μ-loop
 loop-less c = search needs
 
--- src/lib.rt:229:5
 loop-again : tie.Need-loop-again Inv-loop μ-loop
 loop-again c =
     let l = c .before .before .loop in
@@ -62,15 +49,12 @@ loop-again c =
     let x : getD s (l .i) 0 ≡ c .printable .result = readable-at (a .t1) (l .i) (omega arith) ∙ sym (c .printable .ensures) in
     (omega arith, simp length-set (l .inv .1), rw x at (over-suc (now (a .out)) s (a .at) (l .i) (l .out) (omega arith) (l .inv .1) (omega (arith, e)) (l .inv .2)))
 
--- src/lib.rt:233:5
 add-result : tie.Need-add-result Inv-loop μ-loop
 add-result c = search needs
 
--- src/lib.rt:224:1
 same-length : tie.Need-same-length Inv-loop μ-loop
 same-length c = search needs
 
--- src/lib.rt:224:1
 returns : tie.Need-returns Inv-loop μ-loop
 returns c =
     let l = c .before .loop in

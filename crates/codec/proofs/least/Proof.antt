@@ -2,8 +2,6 @@ use borrow.Author.Tests.{lt-ltb, le-ltb}
 use Rattle.codec.specs.Over.{leastOf}
 use Rattle.codec.proofs.least.Statement.{statement}
 use Rattle.codec.proofs.least.Tie as tie
-use Rattle.codec.proofs.least.Reads as reads
-use Rattle.codec.proofs.least.Lts as lts
 
 returns : tie.Need-returns
 unfolding leastOf

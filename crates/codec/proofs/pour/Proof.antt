@@ -1,6 +1,5 @@
-use Prim.Native.Nat.{ℕ, _+_, _*_, _-_, _≤_, _<_}
-use mathlib.Core.Path.{_≡_, refl, sym, ap, _∙_}
-use mathlib.Core.List.{List, [], _∷_, _++_}
+use Prim.Native.Nat.{_+_, _-_, _≤_}
+use mathlib.Core.Path.{_≡_, refl, ap, _∙_}
 use native.Mathlib.Omega.{arith}
 use denote.Ref.{now}
 use lib.ListN.{length, take, length-set}
@@ -11,9 +10,6 @@ use Rattle.codec.proofs.Overs.{least-low, least-left, take-least}
 use borrow.Author.Needs.{needs}
 use Rattle.codec.proofs.pour.Statement.{statement}
 use Rattle.codec.proofs.pour.Tie as tie
-use Rattle.codec.proofs.pour.Reads as reads
-use Rattle.codec.proofs.pour.Lts as lts
-use Rattle.codec.proofs.least.Reads as least-reads
 
 abbrev Inv-loop : tie.InvT-loop
 Inv-loop out₀ src n i₀ out i = (i ≤ n) × (out ≡ over out₀ 0 (take i src)) × (length out ≡ length out₀) × (n ≡ leastOf (length src) (length out₀))

@@ -1,17 +1,14 @@
-use Prim.Native.Nat.{ℕ, _+_, _*_, _-_, _≤_, _<_}
-use mathlib.Core.Path.{_≡_, refl, sym, ap, _∙_}
-use mathlib.Core.List.{List, [], _∷_, _++_}
+use Prim.Native.Nat.{_-_, _≤_}
+use mathlib.Core.Path.{_≡_, refl, ap, _∙_}
 use native.Mathlib.Omega.{arith}
 use denote.Ref.{now}
-use lib.ListN.{length, getD, take, drop, set, length-set, length-drop}
+use lib.ListN.{length, take, length-set}
 use lib.Seq.{take-length}
 use Rattle.answer.specs.Over.{over}
 use Rattle.answer.proofs.Overs.{over-nil, over-suc}
 use borrow.Author.Needs.{needs}
 use Rattle.codec.proofs.put_bytes.Statement.{statement}
 use Rattle.codec.proofs.put_bytes.Tie as tie
-use Rattle.codec.proofs.put_bytes.Reads as reads
-use Rattle.codec.proofs.put_bytes.Lts as lts
 
 abbrev Inv-loop : tie.InvT-loop
 Inv-loop b₀ at src i₀ i-end b i = (i ≤ length src) × (b ≡ over b₀ at (take i src)) × (length b ≡ length b₀) × (i-end ≡ length src)

@@ -1,16 +1,13 @@
-use Prim.Native.Nat.{ℕ, _+_, _*_, _-_, _≤_, _<_}
-use mathlib.Core.Path.{_≡_, refl, sym, ap, _∙_}
-use mathlib.Core.List.{List, [], _∷_, _++_}
+use Prim.Native.Nat.{_-_, _≤_, _<_}
+use mathlib.Core.Path.{_≡_, refl, sym, _∙_}
 use native.Mathlib.Omega.{arith}
 use denote.Ref.{now}
-use lib.ListN.{length, getD, take, drop, set, length-set, length-drop}
+use lib.ListN.{length, take, drop, length-set, length-drop}
 use lib.Seq.{take-all, getD-drop}
 use Rattle.answer.proofs.Copies.{grow}
 use borrow.Author.Needs.{needs}
 use Rattle.codec.proofs.read_bytes.Statement.{statement}
 use Rattle.codec.proofs.read_bytes.Tie as tie
-use Rattle.codec.proofs.read_bytes.Reads as reads
-use Rattle.codec.proofs.read_bytes.Lts as lts
 
 abbrev Inv-loop : tie.InvT-loop
 Inv-loop t₀ b at i₀ i-end t i = (i ≤ length t₀) × (take i t ≡ take i (drop at b)) × (length t ≡ length t₀) × (i-end ≡ length t₀)

@@ -3,30 +3,22 @@ use borrow.Author.Tests.{eq-eqb, ne-eqb}
 use borrow.Author.Needs.{needs}
 use Rattle.filter.proofs.filter_step.Statement.{statement}
 use Rattle.filter.proofs.filter_step.Tie as tie
-use Rattle.filter.proofs.filter_step.Reads as reads
-use Rattle.filter.proofs.filter_step.Lts as lts
-use Rattle.filter.proofs.up.Reads as up-reads
 
--- src/lib.rt:35:9
 returns : tie.Need-returns
 unfolding filterOf
 returns c = simp (c .if1 .taken)
 
--- src/lib.rt:38:9
 returns-2 : tie.Need-returns-2
 unfolding filterOf
 returns-2 c = simp (c .before .before .if1 .left, c .if2 .taken)
 
--- src/lib.rt:40:9
 up-requires : tie.Need-up-requires
 up-requires c κs = search needs
 
--- src/lib.rt:42:9
 returns-3 : tie.Need-returns-3
 unfolding filterOf
 returns-3 c = simp (← c .before .up .ensures, c .before .before .before .before .if1 .left, c .before .before .if2 .left, eq-eqb _ _ (c .if3 .taken))
 
--- src/lib.rt:31:1
 returns-4 : tie.Need-returns-4
 unfolding filterOf
 returns-4 c = simp (← c .before .up .ensures, c .before .before .before .before .if1 .left, c .before .before .if2 .left, ne-eqb _ _ (c .if3 .left))

@@ -4,30 +4,22 @@ use borrow.Author.Tests.{eq-eqb, ne-eqb}
 use borrow.Author.Needs.{needs}
 use Rattle.filter.proofs.stat_step.Statement.{statement}
 use Rattle.filter.proofs.stat_step.Tie as tie
-use Rattle.filter.proofs.stat_step.Reads as reads
-use Rattle.filter.proofs.stat_step.Lts as lts
-use Rattle.filter.proofs.up.Reads as up-reads
 
--- src/lib.rt:52:9
 returns : tie.Need-returns
 unfolding statOf inRow
 returns c = simp (c .if1 .taken)
 
--- src/lib.rt:61:13
 up-requires : tie.Need-up-requires
 up-requires c κs = search needs
 
--- src/lib.rt:63:13
 returns-2 : tie.Need-returns-2
 unfolding statOf inRow
 returns-2 c = simp (← c .before .up .ensures, c .before .before .before .if1 .left, eq-eqb _ _ (c .before .before .if2 .taken), eq-eqb _ _ (c .if3 .taken))
 
--- src/lib.rt:70:9
 returns-3 : tie.Need-returns-3
 unfolding statOf inRow
 returns-3 c = simp (← c .before .up .ensures, c .before .before .before .if1 .left, eq-eqb _ _ (c .before .before .if2 .taken), ne-eqb _ _ (c .if3 .left))
 
--- src/lib.rt:48:1
 returns-4 : tie.Need-returns-4
 unfolding statOf inRow
 returns-4 c = simp (c .before .if1 .left, ne-eqb _ _ (c .if2 .left))

@@ -3,19 +3,14 @@ use borrow.Author.Tests.{lt-ltb, le-ltb}
 use borrow.Author.Needs.{needs}
 use Rattle.filter.proofs.up.Statement.{statement}
 use Rattle.filter.proofs.up.Tie as tie
-use Rattle.filter.proofs.up.Reads as reads
-use Rattle.filter.proofs.up.Lts as lts
 
--- src/lib.rt:25:16
 add-result : tie.Need-add-result
 add-result c = search needs
 
--- src/lib.rt:25:9
 returns : tie.Need-returns
 unfolding upOf
 returns c = simp (lt-ltb _ _ (c .if1 .taken))
 
--- src/lib.rt:21:1
 returns-2 : tie.Need-returns-2
 unfolding upOf
 returns-2 c = simp (le-ltb _ _ (c .if1 .left))

@@ -1,22 +1,16 @@
 use borrow.Author.Needs.{needs}
 use Rattle.layer.proofs.put.Statement.{statement}
 use Rattle.layer.proofs.put.Tie as tie
-use Rattle.layer.proofs.put.Reads as reads
-use Rattle.layer.proofs.put.Lts as lts
 
--- src/lib.rt:63:18
 cast-at : tie.Need-cast-at
 cast-at c = search needs
 
--- src/lib.rt:64:9
 element-write-g : tie.Need-element-write-g
 element-write-g c = search needs
 
--- src/lib.rt:59:1
 returns : tie.Need-returns
 returns c = simp (c .if1 .taken)
 
--- src/lib.rt:59:1
 returns-2 : tie.Need-returns-2
 returns-2 c = search needs
 

@@ -3,18 +3,13 @@ use lib.ListN.{List·getD-eq-default}
 use borrow.Author.Needs.{needs}
 use Rattle.overhead.proofs.byte_at.Statement.{statement}
 use Rattle.overhead.proofs.byte_at.Tie as tie
-use Rattle.overhead.proofs.byte_at.Reads as reads
-use Rattle.overhead.proofs.byte_at.Lts as lts
 
--- src/lib.rt:29:16
 shared-slice-read-result : tie.Need-shared-slice-read-result
 shared-slice-read-result c = search needs
 
--- src/lib.rt:29:9
 returns : tie.Need-returns
 returns c = search needs
 
--- src/lib.rt:25:1
 returns-2 : tie.Need-returns-2
 returns-2 c = simp (List·getD-eq-default {A = ℕ} (c .before .args .bytes .now) 0 (c .if1 .left))
 

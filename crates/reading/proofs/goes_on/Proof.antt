@@ -1,14 +1,10 @@
 use borrow.Author.Tests.{eq-eqb, ne-eqb}
 use Rattle.reading.proofs.goes_on.Statement.{statement}
 use Rattle.reading.proofs.goes_on.Tie as tie
-use Rattle.reading.proofs.goes_on.Reads as reads
-use Rattle.reading.proofs.goes_on.Lts as lts
 
--- src/main.rt:118:9
 returns : tie.Need-returns
 returns c = simp (eq-eqb _ _ (c .if1 .taken))
 
--- src/main.rt:114:1
 returns-2 : tie.Need-returns-2
 returns-2 c = simp (ne-eqb _ _ (c .if1 .left))
 

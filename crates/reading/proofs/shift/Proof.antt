@@ -3,14 +3,12 @@ use Rattle.answer.proofs.Overs.{over-nil}
 use Rattle.answer.specs.Over.{over}
 use lib.ListN.{length, take, drop, length-set}
 use denote.Ref.{now}
-use mathlib.Core.Path.{_≡_, refl, _∙_, ap, sym}
-use Prim.Native.Nat.{ℕ, _-_, _≤_, _<_, _+_, _*_}
+use mathlib.Core.Path.{_≡_, refl, _∙_, ap}
+use Prim.Native.Nat.{ℕ, _-_, _≤_}
 use native.Mathlib.Omega.{arith}
 use borrow.Author.Needs.{needs}
 use Rattle.reading.proofs.shift.Statement.{statement}
 use Rattle.reading.proofs.shift.Tie as tie
-use Rattle.reading.proofs.shift.Reads as reads
-use Rattle.reading.proofs.shift.Lts as lts
 
 abbrev Inv-loop : tie.InvT-loop
 Inv-loop buf₀ from n i₀ buf i = (i ≤ n) × (length buf ≡ length buf₀) × (buf ≡ over buf₀ 0 (take i (drop from buf₀)))
@@ -18,42 +16,33 @@ Inv-loop buf₀ from n i₀ buf i = (i ≤ n) × (length buf ≡ length buf₀) 
 abbrev μ-loop : tie.MeasureT-loop
 μ-loop buf₀ from n i₀ buf i = n - i
 
--- src/main.rt:32:5
 loop-holds : tie.Need-loop-holds Inv-loop μ-loop
 loop-holds c = (omega arith, refl, over-nil (now (c .args .buf)) 0)
 
--- src/main.rt:33:22
 add-buf : tie.Need-add-buf Inv-loop μ-loop
 add-buf c = search needs
 
--- src/main.rt:33:18
 slice-read-buf : tie.Need-slice-read-buf Inv-loop μ-loop
 slice-read-buf c = search needs
 
--- src/main.rt:33:9
 slice-write-buf : tie.Need-slice-write-buf Inv-loop μ-loop
 slice-write-buf c = search needs
 
--- src/main.rt:34:9
 add-i : tie.Need-add-i Inv-loop μ-loop
 add-i c = search needs
 
--- src/main.rt:32:5
 loop-less : tie.Need-loop-less Inv-loop μ-loop
 loop-less c = search needs
 
--- src/main.rt:32:5
 loop-again : tie.Need-loop-again Inv-loop μ-loop
 loop-again c =
     let a = c .before .before .before .args in
     let l = c .before .before .loop in
     (omega arith, simp length-set (l .inv .1), shift-more (now (a .buf)) (a .from) (l .i) (l .buf) (l .inv .2) (l .inv .1) (omega arith))
 
--- src/main.rt:27:1
 same-length : tie.Need-same-length Inv-loop μ-loop
 same-length c = search needs
 
--- src/main.rt:27:1
 returns : tie.Need-returns Inv-loop μ-loop
 returns c =
     let a = c .before .before .args in

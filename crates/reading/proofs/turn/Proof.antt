@@ -1,61 +1,139 @@
-use Rattle.reading.proofs.Turns.{turn-done, turn-more}
+use Rattle.reading.proofs.Lines.{Gathered, Going, going-start, halt-closed, halt-told, halts, run-stands, run-sound, going-closed, going-told, going-end}
+use Rattle.reading.proofs.Turns.{turned}
 use lib.ListN.{length}
 use denote.Ref.{now}
-use mathlib.Core.Path.{_≡_, refl, _∙_, ap, sym}
-use Prim.Native.Nat.{ℕ, _-_, _≤_, _<_, _+_}
+use mathlib.Core.Path.{_∙_}
+use Prim.Native.Nat.{_-_, _+_}
 use native.Mathlib.Omega.{arith}
 use borrow.Author.Needs.{needs}
 use Rattle.reading.proofs.turn.Statement.{statement}
 use Rattle.reading.proofs.turn.Tie as tie
-use Rattle.reading.proofs.turn.Reads as reads
-use Rattle.reading.proofs.turn.Lts as lts
-use Rattle.reading.proofs.finish.Reads as finish-reads
-use Rattle.reading.proofs.gather.Reads as gather-reads
-use Rattle.reading.proofs.goes_on.Reads as goes-on-reads
 
--- src/main.rt:130:9
-gather-requires : tie.Need-gather-requires
-gather-requires c κs = search needs
+abbrev Inv-loop : tie.InvT-loop
+Inv-loop from s ended out₀ at₀ put₀ state₀ frames₀ out at put state frames = Going from s out₀ out at put state frames
 
--- src/main.rt:132:9
-goes-on-requires : tie.Need-goes-on-requires
+abbrev μ-loop : tie.MeasureT-loop
+μ-loop from s ended out₀ at₀ put₀ state₀ frames₀ out at put state frames = length s - at
+
+loop-holds : tie.Need-loop-holds Inv-loop μ-loop
+loop-holds c =
+    let a = c .before .before .before .args in
+    going-start (a .from) (now (a .s)) (now (a .out)) (c .before .before .before .pre .0)
+
+scan-requires : tie.Need-scan-requires Inv-loop μ-loop
+scan-requires c κs = search needs
+
+wide-requires : tie.Need-wide-requires Inv-loop μ-loop
+wide-requires c κs = search needs
+
+add-frames : tie.Need-add-frames Inv-loop μ-loop
+add-frames c =
+    let a = c .before .before .before .before .before .before .before .args in
+    let l = c .before .before .before .loop in
+    let r = c .before .before .scan in
+    let h = run-sound (a .from) (now (a .s)) (now (a .out)) (l .out) (l .at) (l .put) (l .state) (l .frames) (l .inv) (r .result) (r .ensures) in
+    omega (arith, c .wide .ensures, h .few, h .held, h .seconds)
+
+halt-of-requires : tie.Need-halt-of-requires Inv-loop μ-loop
+halt-of-requires c κs = search needs
+
+goes-on-requires : tie.Need-goes-on-requires Inv-loop μ-loop
 goes-on-requires c κs = search needs
 
--- src/main.rt:135:13
-finish-requires : tie.Need-finish-requires
-finish-requires c κs = omega (arith, c .before .before .before .before .before .before .gather .ensures, c .before .before .before .before .before .before .gather .kept .1 .1 .0, c .before .before .before .before .before .before .before .before .before .before .pre)
+wide-requires-2 : tie.Need-wide-requires-2 Inv-loop μ-loop
+wide-requires-2 c κs = search needs
 
--- src/main.rt:136:9
-same-length : tie.Need-same-length
-same-length c = search needs
+add-offset : tie.Need-add-offset Inv-loop μ-loop
+add-offset c =
+    let a = c .before .before .before .before .before .before .before .before .before .before .before .before .args in
+    let l = c .before .before .before .before .before .before .before .before .loop in
+    let r = c .before .before .before .before .before .before .before .scan in
+    let h = run-sound (a .from) (now (a .s)) (now (a .out)) (l .out) (l .at) (l .put) (l .state) (l .frames) (l .inv) (r .result) (r .ensures) in
+    omega (arith, c .before .wide2 .ensures, h .within, h .few, h .held, h .seconds)
 
--- src/main.rt:136:9
-returns : tie.Need-returns
+finish-requires : tie.Need-finish-requires Inv-loop μ-loop
+finish-requires c κs = let l = c .before .before .before .before .before .before .before .before .before .loop in omega (arith, l .inv .room, l .inv .inside, l .inv .long, c .before .before .before .before .before .before .before .before .before .before .before .before .before .pre .1)
+
+same-length : tie.Need-same-length Inv-loop μ-loop
+same-length c = let l = c .before .before .before .before .before .before .before .before .before .before .before .before .loop in c .before .before .finish .kept .1 .1 .1 .1 .1 .0 ∙ l .inv .long
+
+returns : tie.Need-returns Inv-loop μ-loop
 returns c =
-    let a = c .before .before .before .before .before .before .before .before .before .before .before .before .before .args in
-    let g = c .before .before .before .before .before .before .before .before .before .gather in
+    let a = c .before .before .before .before .before .before .before .before .before .before .before .before .before .before .before .before .args in
+    let l = c .before .before .before .before .before .before .before .before .before .before .before .before .loop in
+    let r = c .before .before .before .before .before .before .before .before .before .before .before .scan in
+    let h = c .before .before .before .before .before .before .before .before .halt-of in
+    let m = c .before .before .before .before .before .before .goes-on in
     let x = c .before .before .finish in
-    turn-done (a .from) (now (a .s)) (a .ended) (now (a .out)) (g .last .1 .1 .0) (g .ensures .1) (g .result) (g .ensures .0) (rw (← c .before .before .before .before .before .goes-on .ensures) (c .before .before .before .before .if1 .taken)) (x .result) (x .last .1 .1 .0) (x .ensures .0) (x .ensures .1)
+    let e = c .before .before .before .before .before .before .before .before .before .wide .ensures in
+    let o = c .before .before .before .before .before .wide2 .ensures in
+    let z = going-end (a .from) (now (a .s)) (now (a .out)) (l .out) (l .at) (l .put) (l .state) (l .frames) (l .inv) (r .result) (r .ensures) (h .result .refusal) (r .result .at) (halts (a .from) (now (a .s)) (now (a .out)) (l .out) (l .at) (l .put) (l .state) (l .frames) (l .inv) (r .result) (r .ensures) (h .result) (h .ensures) (c .before .before .before .before .before .before .before .if1 .taken)) in
+    let g : Gathered = record { reading = record { tell = a .from .tell; state = r .result .state; at = a .from .at + r .result .at; frames = l .frames + r .result .frames }; used = r .result .at; put = l .put; refusal = h .result .refusal } in
+    rw (e, o) (turned (a .from) (now (a .s)) (a .ended) (now (a .out)) (l .out) (z .1) g (z .0) (m .result) (m .ensures) (x .result) (x .last .1 .1 .1 .1 .1 .0) (rw (e, o) at (x .ensures .0)) (rw (e, o) at (x .ensures .1)))
 
--- src/main.rt:124:1
-same-length-2 : tie.Need-same-length-2
-same-length-2 c = search needs
+told-line-requires : tie.Need-told-line-requires Inv-loop μ-loop
+told-line-requires c κs = search needs
 
--- src/main.rt:124:1
-returns-2 : tie.Need-returns-2
-returns-2 c =
-    let a = c .before .before .before .before .before .before .before .before .before .args in
-    let g = c .before .before .before .before .before .gather in
-    turn-more (a .from) (now (a .s)) (a .ended) (now (a .out)) (g .last .1 .1 .0) (g .ensures .1) (g .result) (g .ensures .0) (rw (← c .before .goes-on .ensures) (c .if1 .left))
+loop-less : tie.Need-loop-less Inv-loop μ-loop
+loop-less c =
+    let a = c .before .before .before .before .before .before .before .before .before .before .before .before .before .before .args in
+    let l = c .before .before .before .before .before .before .before .before .before .before .loop in
+    let r = c .before .before .before .before .before .before .before .before .before .scan in
+    let h = c .before .before .before .before .before .before .halt-of in
+    let t = run-stands (a .from) (now (a .s)) (now (a .out)) (l .out) (l .at) (l .put) (l .state) (l .frames) (l .inv) (r .result) (r .ensures) in
+    omega (arith, t .inside, t .told (halt-told (h .result) (r .result .stop) (h .ensures) (c .before .before .before .before .before .if1 .left) (c .before .before .before .before .if2 .taken)))
+
+loop-again : tie.Need-loop-again Inv-loop μ-loop
+loop-again c =
+    let a = c .before .before .before .before .before .before .before .before .before .before .before .before .before .before .args in
+    let l = c .before .before .before .before .before .before .before .before .before .before .loop in
+    let r = c .before .before .before .before .before .before .before .before .before .scan in
+    let h = c .before .before .before .before .before .before .halt-of in
+    let x = c .before .before .told-line in
+    let e = c .before .before .before .before .before .before .before .wide .ensures in
+    rw e (going-told (a .from) (now (a .s)) (now (a .out)) (l .out) (l .at) (l .put) (l .state) (l .frames) (l .inv) (r .result) (r .ensures) (x .result) (x .last .1 .1 .1 .0) (halt-told (h .result) (r .result .stop) (h .ensures) (c .before .before .before .before .before .if1 .left) (c .before .before .before .before .if2 .taken)) (c .before .before .before .before .before .before .before .before .before .before .before .before .before .before .pre .1 .0) (c .before .before .before .before .before .before .before .before .before .before .before .before .before .before .pre .1 .1) (rw e at (x .ensures .0)) (x .ensures .1) (rw e at (x .ensures .2)) (x .kept .1 .1 .1 .0))
+
+second-line-requires : tie.Need-second-line-requires Inv-loop μ-loop
+second-line-requires c κs = search needs
+
+loop-less-2 : tie.Need-loop-less-2 Inv-loop μ-loop
+loop-less-2 c =
+    let a = c .before .before .before .before .before .before .before .before .before .before .before .before .before .before .before .args in
+    let l = c .before .before .before .before .before .before .before .before .before .before .before .loop in
+    let r = c .before .before .before .before .before .before .before .before .before .before .scan in
+    let h = c .before .before .before .before .before .before .before .halt-of in
+    let t = run-stands (a .from) (now (a .s)) (now (a .out)) (l .out) (l .at) (l .put) (l .state) (l .frames) (l .inv) (r .result) (r .ensures) in
+    omega (arith, t .inside, t .further (halt-closed (h .result) (r .result .stop) (h .ensures) (c .before .before .before .before .before .before .if1 .left) (c .before .before .before .before .before .if2 .left)))
+
+loop-again-2 : tie.Need-loop-again-2 Inv-loop μ-loop
+loop-again-2 c =
+    let a = c .before .before .before .before .before .before .before .before .before .before .before .before .before .before .before .args in
+    let l = c .before .before .before .before .before .before .before .before .before .before .before .loop in
+    let r = c .before .before .before .before .before .before .before .before .before .before .scan in
+    let h = c .before .before .before .before .before .before .before .halt-of in
+    let x = c .before .before .second-line in
+    rw (c .before .before .before .before .before .before .before .before .wide .ensures) (going-closed (a .from) (now (a .s)) (now (a .out)) (l .out) (l .at) (l .put) (l .state) (l .frames) (l .inv) (r .result) (r .ensures) (x .result) (x .last .1 .0) (halt-closed (h .result) (r .result .stop) (h .ensures) (c .before .before .before .before .before .before .if1 .left) (c .before .before .before .before .before .if2 .left)) (c .before .before .before .before .before .before .before .before .before .before .before .before .before .before .before .pre .1 .0) (c .before .before .before .before .before .before .before .before .before .before .before .before .before .before .before .pre .1 .1) (x .ensures .0) (x .ensures .1) (x .kept .1 .0))
 
 pub turn-spec : {M : Type 1} → statement M
 turn-spec =
     tie.close
     (tie.spec
-    gather-requires
+    Inv-loop
+    μ-loop
+    loop-holds
+    scan-requires
+    wide-requires
+    add-frames
+    halt-of-requires
     goes-on-requires
+    wide-requires-2
+    add-offset
     finish-requires
     same-length
     returns
-    same-length-2
-    returns-2)
+    told-line-requires
+    loop-less
+    loop-again
+    second-line-requires
+    loop-less-2
+    loop-again-2)

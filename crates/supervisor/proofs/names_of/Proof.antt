@@ -7,8 +7,6 @@ use Rattle.answer.proofs.Copies.{grow, whole}
 use borrow.Author.Needs.{needs}
 use Rattle.supervisor.proofs.names_of.Statement.{statement}
 use Rattle.supervisor.proofs.names_of.Tie as tie
-use Rattle.supervisor.proofs.names_of.Reads as reads
-use Rattle.supervisor.proofs.names_of.Lts as lts
 
 abbrev Inv-loop : tie.InvT-loop
 Inv-loop names n₀ i₀ n i = (i ≤ 32) × (take i n ≡ take i names) × (length n ≡ 32)
@@ -16,34 +14,27 @@ Inv-loop names n₀ i₀ n i = (i ≤ 32) × (take i n ≡ take i names) × (len
 abbrev μ-loop : tie.MeasureT-loop
 μ-loop names n₀ i₀ n i = 32 - i
 
--- src/lib.rt:449:5
 loop-holds : tie.Need-loop-holds Inv-loop μ-loop
 loop-holds c = (omega arith, refl, refl)
 
--- src/lib.rt:450:16
 shared-slice-read-n : tie.Need-shared-slice-read-n Inv-loop μ-loop
 shared-slice-read-n c = search needs
 
--- src/lib.rt:450:9
 array-write-n : tie.Need-array-write-n Inv-loop μ-loop
 array-write-n c = search needs
 
--- src/lib.rt:449:9
 add-i : tie.Need-add-i Inv-loop μ-loop
 add-i c = search needs
 
--- src/lib.rt:449:5
 loop-less : tie.Need-loop-less Inv-loop μ-loop
 loop-less c = search needs
 
--- src/lib.rt:449:5
 loop-again : tie.Need-loop-again Inv-loop μ-loop
 loop-again c =
     let l = c .before .before .loop in
     let x = now (c .before .before .before .args .names) in
     (omega arith, grow (l .n) x (l .i) _ (l .inv .1) (omega arith) (omega arith) refl, simp length-set (omega arith))
 
--- src/lib.rt:444:1
 returns : tie.Need-returns Inv-loop μ-loop
 returns c =
     let l = c .before .loop in

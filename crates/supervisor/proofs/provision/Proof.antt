@@ -1,52 +1,36 @@
 use mathlib.Core.Path.{sym, _∙_}
-use Rattle.supervisor.proofs.Ranges.{provisioned-in}
+use Rattle.settings.proofs.Ranges.{provisioned-in}
 use Rattle.supervisor.specs.Supervisor.{provisionOf}
 use borrow.Author.Tests.{eq-eqb, ne-eqb}
 use borrow.Author.Needs.{needs}
 use Rattle.supervisor.proofs.provision.Statement.{statement}
 use Rattle.supervisor.proofs.provision.Tie as tie
-use Rattle.supervisor.proofs.provision.Reads as reads
-use Rattle.supervisor.proofs.provision.Lts as lts
-use Rattle.supervisor.proofs.blank.Reads as blank-reads
-use Rattle.supervisor.proofs.fresh.Reads as fresh-reads
-use Rattle.supervisor.proofs.names_of.Reads as names-of-reads
-use Rattle.supervisor.proofs.settings.options_of.Reads as options-of-reads
-use Rattle.supervisor.proofs.settings.settings_refusal.Reads as settings-refusal-reads
 
--- src/lib.rt:465:9
 settings-refusal-requires : tie.Need-settings-refusal-requires
 settings-refusal-requires c κs = search needs
 
--- src/lib.rt:467:13
 names-of-requires : tie.Need-names-of-requires
 names-of-requires c κs = provisioned-in _ _ _ _ _ (sym (c .before .settings-refusal .ensures) ∙ c .if1 .taken) .section .names
 
--- src/lib.rt:468:13
 names-of-requires-2 : tie.Need-names-of-requires-2
 names-of-requires-2 c κs = provisioned-in _ _ _ _ _ (sym (c .before .before .settings-refusal .ensures) ∙ c .before .if1 .taken) .path .names
 
--- src/lib.rt:469:13
 options-of-requires : tie.Need-options-of-requires
 options-of-requires c κs = search needs
 
--- src/lib.rt:470:13
 options-of-requires-2 : tie.Need-options-of-requires-2
 options-of-requires-2 c κs = search needs
 
--- src/lib.rt:471:13
 fresh-requires : tie.Need-fresh-requires
 fresh-requires c κs = search needs
 
--- src/lib.rt:476:9
 returns : tie.Need-returns
 unfolding provisionOf
 returns c = simp (← c .before .before .before .before .before .before .settings-refusal .ensures, c .before .before .before .before .names-of .ensures, c .before .before .before .names-of2 .ensures, c .before .before .options-of .ensures, c .before .options-of2 .ensures, c .fresh .ensures, eq-eqb _ _ (c .before .before .before .before .before .if1 .taken))
 
--- src/lib.rt:481:9
 blank-requires : tie.Need-blank-requires
 blank-requires c κs = search needs
 
--- src/lib.rt:456:1
 returns-2 : tie.Need-returns-2
 unfolding provisionOf
 returns-2 c = simp (← c .before .before .settings-refusal .ensures, ← c .blank .ensures, ne-eqb _ _ (c .before .if1 .left))

@@ -5,45 +5,29 @@ use borrow.Author.Tests.{eq-eqb, ne-eqb}
 use borrow.Author.Needs.{needs}
 use Rattle.supervisor.proofs.step.Statement.{statement}
 use Rattle.supervisor.proofs.step.Tie as tie
-use Rattle.supervisor.proofs.step.Reads as reads
-use Rattle.supervisor.proofs.step.Lts as lts
-use Rattle.overhead.proofs.overhead_of.Reads as overhead-of-reads
-use Rattle.supervisor.proofs.advance.Reads as advance-reads
-use Rattle.supervisor.proofs.causes.no_report.Reads as no-report-reads
-use Rattle.supervisor.proofs.causes.report_of.Reads as report-of-reads
-use Rattle.supervisor.proofs.second.count.Reads as count-reads
-use Rattle.supervisor.proofs.step_refusal.Reads as step-refusal-reads
 
--- src/lib.rt:305:9
 step-refusal-requires : tie.Need-step-refusal-requires
 step-refusal-requires c κs = search needs
 
--- src/lib.rt:307:13
 overhead-of-requires : tie.Need-overhead-of-requires
 overhead-of-requires c κs = search needs
 
--- src/lib.rt:311:13
 advance-requires : tie.Need-advance-requires
 advance-requires c κs = search needs
 
--- src/lib.rt:314:13
 report-of-requires : tie.Need-report-of-requires
 report-of-requires c κs = search needs
 
--- src/lib.rt:315:13
 count-requires : tie.Need-count-requires
 count-requires c κs = search needs
 
--- src/lib.rt:316:9
 returns : tie.Need-returns
 unfolding stepOf frameOf standsAfter
 returns c = simp (← c .before .before .before .before .before .before .before .before .before .before .step-refusal .ensures, ← c .before .before .before .before .before .before .before .before .overhead-of .ensures, c .before .before .before .before .advance .ensures, c .before .report-of .ensures, c .count .ensures, eq-eqb _ _ (c .before .before .before .before .before .before .before .before .before .if1 .taken))
 
--- src/lib.rt:327:9
 no-report-requires : tie.Need-no-report-requires
 no-report-requires c κs = search needs
 
--- src/lib.rt:302:1
 returns-2 : tie.Need-returns-2
 unfolding stepOf frameOf standsAfter
 returns-2 c = simp (← c .before .before .step-refusal .ensures, c .no-report .ensures, ne-eqb _ _ (c .before .if1 .left))

@@ -2,18 +2,12 @@ use Rattle.trace.proofs.Scans.{run-end, within, refused, room, closed, 
 use Rattle.trace.specs.Scan.{runOf}
 use lib.ListN.{length}
 use denote.Ref.{now}
-use mathlib.Core.Path.{_≡_, refl, _∙_, ap, sym}
+use mathlib.Core.Path.{_≡_, refl, _∙_, sym}
 use Prim.Native.Nat.{_-_, _≤_}
 use native.Mathlib.Omega.{arith}
 use borrow.Author.Needs.{needs}
 use Rattle.trace.proofs.scan.Statement.{statement}
 use Rattle.trace.proofs.scan.Tie as tie
-use Rattle.trace.proofs.scan.Reads as reads
-use Rattle.trace.proofs.scan.Lts as lts
-use Rattle.trace.proofs.applied.Reads as applied-reads
-use Rattle.trace.proofs.frames_in.Reads as frames-in-reads
-use Rattle.trace.proofs.length_of.Reads as length-of-reads
-use Rattle.trace.proofs.record_at.Reads as record-at-reads
 
 abbrev Inv-loop : tie.InvT-loop
 Inv-loop tell s from at₀ frames₀ state₀ at frames state = (runOf tell s at₀ frames₀ state₀ ≡ runOf tell s at frames state) × (frames ≤ at)
@@ -21,19 +15,15 @@ Inv-loop tell s from at₀ frames₀ state₀ at frames state = (runOf tell s at
 abbrev μ-loop : tie.MeasureT-loop
 μ-loop tell s from at₀ frames₀ state₀ at frames state = length s - at
 
--- src/lib.rt:289:9
 loop-holds : tie.Need-loop-holds Inv-loop μ-loop
 loop-holds c = (refl, omega arith)
 
--- src/lib.rt:293:13
 record-at-requires : tie.Need-record-at-requires Inv-loop μ-loop
 record-at-requires c κs = search needs
 
--- src/lib.rt:294:29
 enum-known-rec : tie.Need-enum-known-rec Inv-loop μ-loop
 enum-known-rec c = search needs
 
--- src/lib.rt:295:17
 applied-requires : tie.Need-applied-requires Inv-loop μ-loop
 applied-requires c κs =
     let l = c .before .before .before .loop in
@@ -41,11 +31,9 @@ applied-requires c κs =
     let s = now (c .before .before .before .before .before .args .s) in
     within tell s (l .at) (l .frames) (l .state) (c .before .record-at .result) (c .before .record-at .ensures) (c .before .before .if1 .left)
 
--- src/lib.rt:303:23
 frames-in-requires : tie.Need-frames-in-requires Inv-loop μ-loop
 frames-in-requires c κs = search needs
 
--- src/lib.rt:303:13
 add-frames : tie.Need-add-frames Inv-loop μ-loop
 add-frames c =
     let l = c .before .before .before .before .before .before .before .before .loop in
@@ -53,11 +41,9 @@ add-frames c =
     let s = now (c .before .before .before .before .before .before .before .before .before .before .args .s) in
     omega (arith, c .before .before .before .before .before .before .before .before .before .before .good .1 .1 .0 .0, c .frames-in .ensures, l .inv .1, room tell s (l .at) (l .frames) (l .state) (c .before .before .before .before .before .before .record-at .result) (c .before .before .before .before .before .before .record-at .ensures) (c .before .before .before .before .before .before .before .if1 .left) (c .before .before .before .before .applied .result) (c .before .before .before .before .applied .ensures) (c .before .before .if2 .left))
 
--- src/lib.rt:304:19
 length-of-requires : tie.Need-length-of-requires Inv-loop μ-loop
 length-of-requires c κs = search needs
 
--- src/lib.rt:304:19
 add-at : tie.Need-add-at Inv-loop μ-loop
 add-at c =
     let l = c .before .before .before .before .before .before .before .before .before .loop in
@@ -65,7 +51,6 @@ add-at c =
     let s = now (c .before .before .before .before .before .before .before .before .before .before .before .args .s) in
     omega (arith, c .before .before .before .before .before .before .before .before .before .before .before .good .1 .1 .0 .0, c .length-of .ensures, room tell s (l .at) (l .frames) (l .state) (c .before .before .before .before .before .before .before .record-at .result) (c .before .before .before .before .before .before .before .record-at .ensures) (c .before .before .before .before .before .before .before .before .if1 .left) (c .before .before .before .before .before .applied .result) (c .before .before .before .before .before .applied .ensures) (c .before .before .before .if2 .left))
 
--- src/lib.rt:304:13
 add-at-2 : tie.Need-add-at-2 Inv-loop μ-loop
 add-at-2 c =
     let l = c .before .before .before .before .before .before .before .before .before .loop in
@@ -73,7 +58,6 @@ add-at-2 c =
     let s = now (c .before .before .before .before .before .before .before .before .before .before .before .args .s) in
     omega (arith, c .before .before .before .before .before .before .before .before .before .before .before .good .1 .1 .0 .0, c .length-of .ensures, room tell s (l .at) (l .frames) (l .state) (c .before .before .before .before .before .before .before .record-at .result) (c .before .before .before .before .before .before .before .record-at .ensures) (c .before .before .before .before .before .before .before .before .if1 .left) (c .before .before .before .before .before .applied .result) (c .before .before .before .before .before .applied .ensures) (c .before .before .before .if2 .left))
 
--- src/lib.rt:289:9
 loop-less : tie.Need-loop-less Inv-loop μ-loop
 loop-less c =
     let l = c .before .before .before .before .before .before .before .before .before .before .before .loop in
@@ -81,7 +65,6 @@ loop-less c =
     let s = now (c .before .before .before .before .before .before .before .before .before .before .before .before .before .args .s) in
     omega (arith, c .before .before .length-of .ensures, room tell s (l .at) (l .frames) (l .state) (c .before .before .before .before .before .before .before .before .before .record-at .result) (c .before .before .before .before .before .before .before .before .before .record-at .ensures) (c .before .before .before .before .before .before .before .before .before .before .if1 .left) (c .before .before .before .before .before .before .before .applied .result) (c .before .before .before .before .before .before .before .applied .ensures) (c .before .before .before .before .before .if2 .left))
 
--- src/lib.rt:289:9
 loop-again : tie.Need-loop-again Inv-loop μ-loop
 loop-again c =
     let l = c .before .before .before .before .before .before .before .before .before .before .before .loop in
@@ -91,7 +74,6 @@ loop-again c =
       omega (arith, c .before .before .length-of .ensures, c .before .before .before .frames-in .ensures, l .inv .1, room tell s (l .at) (l .frames) (l .state) (c .before .before .before .before .before .before .before .before .before .record-at .result) (c .before .before .before .before .before .before .before .before .before .record-at .ensures) (c .before .before .before .before .before .before .before .before .before .before .if1 .left) (c .before .before .before .before .before .before .before .applied .result) (c .before .before .before .before .before .before .before .applied .ensures) (c .before .before .before .before .before .if2 .left)),
     )
 
--- src/lib.rt:283:1
 returns : tie.Need-returns Inv-loop μ-loop
 returns c =
     let l = c .before .loop in
@@ -99,7 +81,6 @@ returns c =
     let s = now (c .before .before .before .args .s) in
     sym (l .inv .0 ∙ run-end tell s (l .at) (l .frames) (l .state) (c .if1 .taken))
 
--- src/lib.rt:283:1
 returns-2 : tie.Need-returns-2 Inv-loop μ-loop
 returns-2 c =
     let l = c .before .before .before .before .before .before .loop in
@@ -107,7 +88,6 @@ returns-2 c =
     let s = now (c .before .before .before .before .before .before .before .before .args .s) in
     sym (l .inv .0 ∙ refused tell s (l .at) (l .frames) (l .state) (c .before .before .before .before .record-at .result) (c .before .before .before .before .record-at .ensures) (c .before .before .before .before .before .if1 .left) (c .before .before .applied .result) (c .before .before .applied .ensures) (c .if2 .taken))
 
--- src/lib.rt:283:1
 returns-3 : tie.Need-returns-3 Inv-loop μ-loop
 returns-3 c =
     let l = c .before .before .before .before .before .before .before .before .before .before .loop in
@@ -115,7 +95,6 @@ returns-3 c =
     let s = now (c .before .before .before .before .before .before .before .before .before .before .before .before .args .s) in
     rw (c .before .length-of .ensures, c .before .before .frames-in .ensures) (sym (l .inv .0 ∙ closed tell s (l .at) (l .frames) (l .state) (c .before .before .before .before .before .before .before .before .record-at .result) (c .before .before .before .before .before .before .before .before .record-at .ensures) (c .before .before .before .before .before .before .before .before .before .if1 .left) (c .before .before .before .before .before .before .applied .result) (c .before .before .before .before .before .before .applied .ensures) (c .before .before .before .before .if2 .left) (c .if3 .taken)))
 
--- src/lib.rt:283:1
 returns-4 : tie.Need-returns-4 Inv-loop μ-loop
 returns-4 c =
     let l = c .before .before .before .before .before .before .before .before .before .before .before .loop in
@@ -123,7 +102,6 @@ returns-4 c =
     let s = now (c .before .before .before .before .before .before .before .before .before .before .before .before .before .args .s) in
     rw (c .before .before .length-of .ensures, c .before .before .before .frames-in .ensures) (sym (l .inv .0 ∙ told tell s (l .at) (l .frames) (l .state) (c .before .before .before .before .before .before .before .before .before .record-at .result) (c .before .before .before .before .before .before .before .before .before .record-at .ensures) (c .before .before .before .before .before .before .before .before .before .before .if1 .left) (c .before .before .before .before .before .before .before .applied .result) (c .before .before .before .before .before .before .before .applied .ensures) (c .before .before .before .before .before .if2 .left) (c .before .if3 .left) (c .if4 .taken)))
 
--- src/lib.rt:283:1
 returns-5 : tie.Need-returns-5 Inv-loop μ-loop
 returns-5 c =
     let l = c .before .before .before .before .before .loop in

@@ -1,0 +1,47 @@
+-- Wrong answers that the contracts of the calls shut out, each for one input. Assumes nothing.
+use mathlib.Core.Path.{_≡_, ap, sym, _∙_}
+use mathlib.Core.List.{List, [], _∷_}
+use Prim.Native.Nat.{ℕ}
+use native.Mathlib.Omega.{arith}
+use contract.Lifetimes.{Lfts}
+use borrow.Fn.Kinds.{Dens, endedOf}
+use denote.Triple.Clauses.{AtExit}
+use denote.Ref.{now}
+use lib.ListN.{getD}
+use Rattle.image.specs.Image.{sound}
+use Rattle.card.specs.Calls.{freshRefusal, callRefusal, callAnswer, markRefusal, markRecord, traceRefused}
+use Rattle.card.proofs.otn_fresh.Kinds as otn-fresh-kinds
+use Rattle.card.proofs.otn_fresh.Reads as otn-fresh-reads
+use Rattle.card.proofs.otn_step.Kinds as otn-step-kinds
+use Rattle.card.proofs.otn_step.Reads as otn-step-reads
+use Rattle.card.proofs.otn_mark.Kinds as otn-mark-kinds
+use Rattle.card.proofs.otn_mark.Reads as otn-mark-reads
+use Rattle.card.proofs.otn_trace.Kinds as otn-trace-kinds
+use Rattle.card.proofs.otn_trace.Reads as otn-trace-reads
+
+-- otn_fresh: no bytes are not taken for a supervisor's
+pub fresh-any-length : (κs : Lfts 3) (a : Dens κs otn-fresh-kinds.ps) (s : AtExit (endedOf 3 otn-fresh-kinds.ps otn-fresh-kinds.r) κs)
+    → now (a .0) ≡ [] → otn-fresh-reads.Post κs a 0 s → ⊥
+unfolding freshRefusal
+fresh-any-length κs a s b e = let z : _≡_ {A = ℕ} 0 17 = rw b at (e .answers) in omega arith
+
+-- otn_step: 17 is checked before 1
+pub step-one-first : (κs : Lfts 2) (a : Dens κs otn-step-kinds.ps) (s : AtExit (endedOf 2 otn-step-kinds.ps otn-step-kinds.r) κs)
+    → now (a .0) ≡ [] → now (a .1 .0) ≡ [] → otn-step-reads.Post κs a 1 s → ⊥
+unfolding callAnswer callRefusal sound
+step-one-first κs a s b o e = let z : _≡_ {A = ℕ} 1 17 = rw b at (e .answers) in omega arith
+
+-- otn_mark: a refusal writes no byte of the record
+pub mark-written-on-17 : (κs : Lfts 2) (a : Dens κs otn-mark-kinds.ps) (s : AtExit (endedOf 2 otn-mark-kinds.ps otn-mark-kinds.r) κs)
+    → now (a .0) ≡ [] → now (a .1 .0) ≡ 7 ∷ [] → now (s .1 .0) ≡ 0 ∷ [] → otn-mark-reads.Post κs a 17 s → ⊥
+unfolding markRecord markRefusal sound
+mark-written-on-17 κs a s b o end e =
+    let h : _≡_ {A = List ℕ} (0 ∷ []) (7 ∷ []) = sym end ∙ rw (b, o) at (e .fills) in
+    let z : _≡_ {A = ℕ} 0 7 = ap (λ (l : List ℕ). getD l 0 0) h in
+    omega arith
+
+-- otn_trace: 17 is checked before 12
+pub trace-twelve-first : (κs : Lfts 2) (a : Dens κs otn-trace-kinds.ps) (s : AtExit (endedOf 2 otn-trace-kinds.ps otn-trace-kinds.r) κs)
+    → now (a .0) ≡ [] → now (a .1 .1 .0) ≡ [] → otn-trace-reads.Post κs a 12 s → ⊥
+unfolding traceRefused sound
+trace-twelve-first κs a s b o e = let z : _≡_ {A = ℕ} 12 17 = rw b at (e .answers) in omega arith

@@ -1,0 +1,3 @@
+pub mod OneCause
+pub mod Unique
+pub mod Refuted

@@ -1,0 +1,67 @@
+-- Wrong answers that the contracts shut out, each for one input. Assumes nothing.
+use mathlib.Core.Path.{_≡_, ap, sym, _∙_}
+use mathlib.Core.List.{List, [], _∷_}
+use Prim.Native.Nat.{ℕ}
+use native.Mathlib.Omega.{arith}
+use contract.Lifetimes.{Lfts}
+use borrow.Fn.Kinds.{Dens, endedOf}
+use denote.Triple.Clauses.{AtExit}
+use denote.Ref.{now}
+use lib.ListN.{length, getD, replicate}
+use Rattle.answer.specs.Over.{over}
+use Rattle.codec.specs.Over.{bytesIn, laid, poured}
+use Rattle.codec.proofs.trace_in.Kinds as trace-in-kinds
+use Rattle.codec.proofs.trace_in.Reads as trace-in-reads
+use Rattle.codec.proofs.names_in.Kinds as names-in-kinds
+use Rattle.codec.proofs.names_in.Reads as names-in-reads
+use Rattle.codec.proofs.lay_trace.Kinds as lay-trace-kinds
+use Rattle.codec.proofs.lay_trace.Reads as lay-trace-reads
+use Rattle.codec.proofs.lay_names.Kinds as lay-names-kinds
+use Rattle.codec.proofs.lay_names.Reads as lay-names-reads
+use Rattle.codec.proofs.pour.Kinds as pour-kinds
+use Rattle.codec.proofs.pour.Reads as pour-reads
+
+-- trace_in: beyond the bytes a trace is zeros, and not sevens
+pub sevens-beyond : (κs : Lfts 1) (a : Dens κs trace-in-kinds.ps) (s : AtExit (endedOf 1 trace-in-kinds.ps trace-in-kinds.r) κs)
+    → now (a .0) ≡ [] → a .1 .0 ≡ 0 → trace-in-reads.Post κs a (replicate 64 7) s → ⊥
+unfolding bytesIn
+sevens-beyond κs a s b at e =
+    let h : replicate 64 7 ≡ bytesIn 64 0 [] = rw (b, at) at e in
+    let z : _≡_ {A = ℕ} 7 0 = ap (λ (l : List ℕ). getD l 0 0) h in
+    omega arith
+
+-- names_in: bytes are read from their place, and not from the start
+pub read-from-start : (κs : Lfts 1) (a : Dens κs names-in-kinds.ps) (s : AtExit (endedOf 1 names-in-kinds.ps names-in-kinds.r) κs)
+    → now (a .0) ≡ 9 ∷ replicate 32 0 → a .1 .0 ≡ 1 → names-in-reads.Post κs a (9 ∷ replicate 31 0) s → ⊥
+unfolding bytesIn
+read-from-start κs a s b at e =
+    let h : 9 ∷ replicate 31 0 ≡ bytesIn 32 1 (9 ∷ replicate 32 0) = rw (b, at) at e in
+    let z : _≡_ {A = ℕ} 9 0 = ap (λ (l : List ℕ). getD l 0 0) h in
+    omega arith
+
+-- lay_trace: the bytes behind what is laid stay
+pub rest-cut : (κs : Lfts 1) (a : Dens κs lay-trace-kinds.ps) (s : AtExit (endedOf 1 lay-trace-kinds.ps lay-trace-kinds.r) κs)
+    → now (a .0) ≡ replicate 65 0 → a .1 .0 ≡ 0 → a .1 .1 .0 ≡ replicate 64 7 → now (s .0) ≡ replicate 64 7 → lay-trace-reads.Post κs a tt s → ⊥
+unfolding laid over
+rest-cut κs a s b at t end e =
+    let h : replicate 64 7 ≡ laid (replicate 65 0) 0 (replicate 64 7) = sym end ∙ rw (b, at, t) at e in
+    let z : _≡_ {A = ℕ} 64 65 = ap length h in
+    omega arith
+
+-- lay_names: where there is no room for all of them nothing is laid
+pub names-in-part : (κs : Lfts 1) (a : Dens κs lay-names-kinds.ps) (s : AtExit (endedOf 1 lay-names-kinds.ps lay-names-kinds.r) κs)
+    → now (a .0) ≡ replicate 31 0 → a .1 .0 ≡ 0 → a .1 .1 .0 ≡ replicate 32 7 → now (s .0) ≡ replicate 31 7 → lay-names-reads.Post κs a tt s → ⊥
+unfolding laid over
+names-in-part κs a s b at t end e =
+    let h : replicate 31 7 ≡ laid (replicate 31 0) 0 (replicate 32 7) = sym end ∙ rw (b, at, t) at e in
+    let z : _≡_ {A = ℕ} 7 0 = ap (λ (l : List ℕ). getD l 0 0) h in
+    omega arith
+
+-- pour: no more is poured than there is room for
+pub pours-more : (κs : Lfts 2) (a : Dens κs pour-kinds.ps) (s : AtExit (endedOf 2 pour-kinds.ps pour-kinds.r) κs)
+    → now (a .0) ≡ 0 ∷ [] → now (a .1 .0) ≡ 7 ∷ 7 ∷ [] → now (s .0) ≡ 7 ∷ 7 ∷ [] → pour-reads.Post κs a tt s → ⊥
+unfolding poured over
+pours-more κs a s b v end e =
+    let h : 7 ∷ 7 ∷ [] ≡ poured (0 ∷ []) (7 ∷ 7 ∷ []) = sym end ∙ rw (b, v) at e in
+    let z : _≡_ {A = ℕ} 2 1 = ap length h in
+    omega arith

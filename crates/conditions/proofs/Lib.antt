@@ -1,0 +1,4 @@
+pub mod Changes
+pub mod Names
+pub mod Refuted
+pub mod Unique

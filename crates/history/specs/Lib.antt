@@ -1,0 +1,4 @@
+pub mod Ranges
+pub mod History
+pub mod Ledger
+pub mod Cases

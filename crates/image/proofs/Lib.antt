@@ -1,0 +1,4 @@
+pub mod Bytes
+pub mod Ranges
+pub mod Refuted
+pub mod Unique

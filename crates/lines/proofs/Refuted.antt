@@ -1,0 +1,69 @@
+-- Wrong answers that the contract of `told_line` shuts out, each for one record. Assumes nothing.
+use Prim.Native.Nat.{ℕ, _-_, _≤_}
+use native.Mathlib.Omega.{arith}
+use mathlib.Core.Path.{_≡_, refl, _∙_, ap, sym}
+use mathlib.Core.Bool.{true, false}
+use mathlib.Core.List.{List, []}
+use lib.ListN.{length, getD}
+use lib.Dec.{leb}
+use denote.Ref.{now}
+use contract.Lifetimes.{Lfts}
+use borrow.Fn.Kinds.{Dens, endedOf}
+use denote.Triple.Clauses.{AtExit}
+use Rattle.answer.specs.Over.{over}
+use Rattle.answer.proofs.Cond.{by-cond}
+use Rattle.listing.specs.Text.{fitted, decimalIn, fieldOf, fieldsOf}
+use Rattle.listing.proofs.Overs.{fitted-is}
+use Rattle.names.specs.Names.{sameIn, sameTrace}
+use Rattle.causes.specs.Causes.{ssfOf, timActs, headOf, reportOf, nothingStands}
+use Rattle.conditions.specs.Conditions.{conditions, changeOf, changesOf, conditionChanges}
+use Rattle.change.specs.Change.{shownOf, headChange, printableOf, readableOf, toldOf, traceChange, allChanges, beginningOf, frameLine, changeLine}
+use Rattle.trace.specs.declared.State.{State}
+use Rattle.trace.specs.Scan.{startOf}
+use Rattle.stream.specs.Stream.{change}
+use Rattle.lines.specs.Line.{lineFor}
+use Rattle.lines.proofs.told_line.Kinds as told-kinds
+use Rattle.lines.proofs.told_line.Reads as told-reads
+
+-- the state a scan starts with, in frame
+abbrev framed : State
+framed = record {
+  begun = true;
+  sup = startOf .sup;
+  last = startOf .last;
+  standing = record {
+    line = record { inframe = true; inmulti = false; tsf = false; ais = false; lof = false; lom = false };
+    section = nothingStands .section;
+    path = nothingStands .path;
+  };
+}
+
+abbrev End : Lfts 1 → Type 0
+End κs = AtExit (endedOf 1 told-kinds.ps told-kinds.r) κs
+
+same-state : lineFor (change 1 framed framed) ≡ []
+unfolding lineFor shownOf changeLine frameLine beginningOf allChanges conditionChanges conditions traceChange toldOf readableOf printableOf headChange changesOf changeOf fieldsOf fieldOf decimalIn reportOf headOf timActs ssfOf sameTrace sameIn
+same-state = refl
+
+-- a record with which nothing changed puts no line, and no line end either
+pub empty-line : (κs : Lfts 1) (a : Dens κs told-kinds.ps) (s : End κs) → told-reads.Post κs (framed, (framed, (1, (a .1 .1 .1 .0, (0, tt))))) 1 s → ⊥
+unfolding fitted
+empty-line κs a s p =
+    let d : List ℕ = now (a .1 .1 .1 .0) in
+    let e : length (fitted (length d) 0 1024 (lineFor (change 1 framed framed))) ≡ 0 =
+    ap (λ (l : List ℕ). length (fitted (length d) 0 1024 l)) same-state ∙ by-cond (λ (l : List ℕ). length l ≡ 0) (leb 1024 (length d - 0)) (λ _. refl) (λ _. refl) in
+    omega (arith, p .0, e)
+
+first-second : (d : List ℕ) → getD (over d 0 (lineFor (change 1 startOf framed))) 2 0 ≡ 49
+unfolding over lineFor shownOf changeLine frameLine beginningOf allChanges conditionChanges conditions traceChange toldOf readableOf printableOf headChange changesOf changeOf fieldsOf fieldOf decimalIn reportOf headOf timActs ssfOf sameTrace sameIn
+first-second d = refl
+
+-- the open second is counted from 1: a line that begins "F 0" is none
+pub second-from-0 : (κs : Lfts 1) (a : Dens κs told-kinds.ps) (x : ℕ) (s : End κs) → 1024 ≤ length (now (a .1 .1 .1 .0))
+    → told-reads.Post κs (startOf, (framed, (1, (a .1 .1 .1 .0, (0, tt))))) x s → getD (now (s .1 .1 .1 .0)) 2 0 ≡ 48 → ⊥
+second-from-0 κs a x s h p z =
+    let d : List ℕ = now (a .1 .1 .1 .0) in
+    let l : List ℕ = lineFor (change 1 startOf framed) in
+    let f : fitted (length d) 0 1024 l ≡ l = fitted-is (length d) 0 1024 l (omega arith) in
+    let e : _≡_ {A = ℕ} 48 49 = sym z ∙ ap (λ (o : List ℕ). getD o 2 0) (p .2 ∙ ap (over d 0) f) ∙ first-second d in
+    omega arith

@@ -1,0 +1,19 @@
+-- What is told as text: the line of a second that was closed, and of a record with which anything changed. Assumes nothing.
+use Prim.Native.Nat.{ℕ, _+_}
+use mathlib.Core.List.{List}
+use Rattle.listing.specs.Text.{secondLine}
+use Rattle.causes.specs.Causes.{reportOf}
+use Rattle.change.specs.declared.Shown.{Shown}
+use Rattle.change.specs.Change.{shownOf, changeLine}
+use Rattle.trace.specs.declared.State.{State}
+use Rattle.stream.specs.Stream.{Note, second, change}
+
+-- what a state shows: the report of what stands (its counts, which are the frame's own, left at 0) and the accepted traces
+abbrev pub shownIn : State → Shown
+shownIn st = shownOf (st .sup) (reportOf (st .standing) 0 0)
+
+-- The line of what is told: of a closed second its figures; of a record what changed with it, under the open second and the frame's number there
+-- and in the trace.
+unfoldable pub lineFor : Note → List ℕ
+lineFor (second figures) = secondLine figures
+lineFor (change total was is) = changeLine (is .sup .seconds + 1) (is .sup .second .frames .0) total (shownIn was) (shownIn is)

@@ -1,0 +1,3 @@
+pub mod Refuted
+pub mod Same
+pub mod Unique

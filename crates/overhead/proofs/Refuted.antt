@@ -1,0 +1,61 @@
+-- Wrong answers that the contracts shut out, each at one input. Assumes nothing.
+use Prim.Native.Nat.{ℕ}
+use mathlib.Core.Path.{_≡_, sym, ap, _∙_}
+use mathlib.Core.Bool.{true, false, true≢false, false≢true}
+use mathlib.Core.List.{List, [], _∷_, _++_}
+use native.Mathlib.Omega.{arith}
+use contract.Lifetimes.{Lfts}
+use borrow.Fn.Kinds.{Dens, endedOf}
+use denote.Triple.Clauses.{AtExit}
+use denote.Ref.{now}
+use lib.ListN.{replicate}
+use Rattle.answer.specs.Answer.{NoAnswer}
+use Rattle.overhead.specs.declared.Overhead.{Overhead}
+use Rattle.overhead.specs.Overhead.{threeOf, fourOf, fieldOf, overheadOf, farBlock}
+use Rattle.overhead.proofs.overhead_of.Kinds as overhead-kinds
+use Rattle.overhead.proofs.overhead_of.Reads as overhead-reads
+use Rattle.overhead.proofs.far_block.Kinds as far-kinds
+use Rattle.overhead.proofs.far_block.Reads as far-reads
+
+-- 0 and 9 to 15 are no block, 8 is one
+pub bei-zero : NoAnswer far-kinds.ps far-kinds.r far-reads.Post (0, tt) true
+unfolding farBlock
+bei-zero s e = true≢false e
+
+pub bei-nine : NoAnswer far-kinds.ps far-kinds.r far-reads.Post (9, tt) true
+unfolding farBlock
+bei-nine s e = true≢false e
+
+pub bei-eight : NoAnswer far-kinds.ps far-kinds.r far-reads.Post (8, tt) false
+unfolding farBlock
+bei-eight s e = false≢true e
+
+-- what bytes that end early show
+module _ (κs : Lfts 1) (a : Dens κs overhead-kinds.ps) (s : AtExit (endedOf 1 overhead-kinds.ps overhead-kinds.r) κs) (x : Overhead) (e : overhead-reads.Post κs a x s) where
+  shows : (bytes : List ℕ) → now (a .0) ≡ bytes → x ≡ overheadOf bytes
+  shows bytes b = e ∙ ap overheadOf b
+
+  -- column 1 is never looked at
+  pub column-one : now (a .0) ≡ 0 ∷ 0xF6 ∷ 0xF6 ∷ 0x28 ∷ 0x28 ∷ [] → x .four ≡ false → ⊥
+  unfolding overheadOf fourOf threeOf
+  column-one b w = false≢true (sym w ∙ ap (λ (o : Overhead). o .four) (shows _ b))
+
+  -- columns 3 to 5 are not enough for four
+  pub column-two : now (a .0) ≡ 0xF6 ∷ 0 ∷ 0xF6 ∷ 0x28 ∷ 0x28 ∷ [] → x .four ≡ true → ⊥
+  unfolding overheadOf fourOf threeOf
+  column-two b w = true≢false (sym w ∙ ap (λ (o : Overhead). o .four) (shows _ b))
+
+  -- MFAS is column 7
+  pub mfas-late : now (a .0) ≡ replicate 6 0 ++ (9 ∷ 5 ∷ []) → x .mfas ≡ 5 → ⊥
+  unfolding overheadOf
+  mfas-late b w = let h : _≡_ {A = ℕ} 5 9 = sym w ∙ ap (λ (o : Overhead). o .mfas) (shows _ b) in omega arith
+
+  -- BDI is bit 5 of the status byte, and bit 4 is the lowest of BEI
+  pub bdi-bit-four : now (a .0) ≡ replicate 9 0 ++ (16 ∷ []) → x .section .bdi ≡ true → ⊥
+  unfolding overheadOf fieldOf
+  bdi-bit-four b w = true≢false (sym w ∙ ap (λ (o : Overhead). o .section .bdi) (shows _ b))
+
+  -- STAT has three bits
+  pub stat-two-bits : now (a .0) ≡ replicate 43 0 ++ (7 ∷ []) → x .path .stat ≡ 3 → ⊥
+  unfolding overheadOf fieldOf
+  stat-two-bits b w = let h : _≡_ {A = ℕ} 3 7 = sym w ∙ ap (λ (o : Overhead). o .path .stat) (shows _ b) in omega arith

@@ -1,0 +1,3 @@
+pub mod Records
+pub mod Unique
+pub mod Refuted

@@ -1,0 +1,71 @@
+-- Wrong answers that the contracts shut out, each at one input. Assumes nothing.
+use Prim.Native.Nat.{ℕ}
+use mathlib.Core.Path.{_≡_, ap, _∙_}
+use mathlib.Core.List.{List, [], _∷_}
+use native.Mathlib.Omega.{arith}
+use contract.Lifetimes.{Lfts}
+use borrow.Fn.Kinds.{Dens, endedOf}
+use denote.Triple.Clauses.{AtExit}
+use denote.Ref.{now}
+use Rattle.settings.specs.declared.Request.{Request}
+use Rattle.record.specs.declared.Record.{Record}
+use Rattle.record.specs.declared.Record.the-variants.{Mark, Provisioning, Refused}
+use Rattle.record.specs.Record.{kindOf, refusalOf, ofKind, recordOf, sectionIn, pathIn}
+use Rattle.record.proofs.length_of.Kinds as length-kinds
+use Rattle.record.proofs.length_of.Reads as length-reads
+use Rattle.record.proofs.frames_in.Kinds as frames-kinds
+use Rattle.record.proofs.frames_in.Reads as frames-reads
+use Rattle.record.proofs.record_at.Kinds as record-kinds
+use Rattle.record.proofs.record_at.Reads as record-reads
+use Rattle.record.proofs.section_in.Kinds as section-kinds
+use Rattle.record.proofs.section_in.Reads as section-reads
+use Rattle.record.proofs.path_in.Kinds as path-kinds
+use Rattle.record.proofs.path_in.Reads as path-reads
+
+-- the length counts kind and body, and not its own two bytes
+pub whole-record : (κs : Lfts 0) (s : AtExit (endedOf 0 length-kinds.ps length-kinds.r) κs) → length-reads.Post κs (Provisioning, tt) 83 s → ⊥
+whole-record κs s e = let h : _≡_ {A = ℕ} 83 81 = e in omega arith
+
+-- a mark is no frame
+pub mark-counted : (κs : Lfts 0) (s : AtExit (endedOf 0 frames-kinds.ps frames-kinds.r) κs) → frames-reads.Post κs (Mark, tt) 1 s → ⊥
+mark-counted κs s e = let h : _≡_ {A = ℕ} 1 0 = e in omega arith
+
+-- what stands at the front of these bytes
+module _ (κs : Lfts 1) (a : Dens κs record-kinds.ps) (s : AtExit (endedOf 1 record-kinds.ps record-kinds.r) κs) (front : a .1 .0 ≡ 0) where
+  is : (bytes : List ℕ) → now (a .0) ≡ bytes → (r : Record) → record-reads.Post κs a r s → r ≡ recordOf bytes
+  is bytes b r e = e ∙ rw (front, b)
+
+  -- four bytes are enough for a mark
+  pub mark-cut : now (a .0) ≡ 2 ∷ 0 ∷ 2 ∷ 0 ∷ [] → record-reads.Post κs a (Refused 14) s → ⊥
+  unfolding recordOf ofKind
+  mark-cut b e = let h : _≡_ {A = ℕ} 0 2 = ap kindOf (is (2 ∷ 0 ∷ 2 ∷ 0 ∷ []) b (Refused 14) e) in omega arith
+
+  -- the low byte stands first
+  pub high-first : now (a .0) ≡ 0 ∷ 2 ∷ 0 ∷ 2 ∷ [] → record-reads.Post κs a Mark s → ⊥
+  unfolding recordOf ofKind
+  high-first b e = let h : _≡_ {A = ℕ} 2 0 = ap kindOf (is (0 ∷ 2 ∷ 0 ∷ 2 ∷ []) b Mark e) in omega arith
+
+  -- a length that is wrong for its kind is 15, however few bytes are left
+  pub wrong-cut : now (a .0) ≡ 69 ∷ 0 ∷ 2 ∷ 0 ∷ [] → record-reads.Post κs a (Refused 14) s → ⊥
+  unfolding recordOf ofKind
+  wrong-cut b e = let h : _≡_ {A = ℕ} 14 15 = ap refusalOf (is (69 ∷ 0 ∷ 2 ∷ 0 ∷ []) b (Refused 14) e) in omega arith
+
+-- the first bytes of a body: k, then the section's five and the path's, then the modes
+abbrev pub body : List ℕ
+body = 1 ∷ 2 ∷ 0 ∷ 0 ∷ 0 ∷ 3 ∷ 4 ∷ 0 ∷ 0 ∷ 0 ∷ 5 ∷ 1 ∷ 2 ∷ 0 ∷ 1 ∷ []
+
+-- DEGThr has its low byte first
+pub thr-high : (κs : Lfts 1) (a : Dens κs section-kinds.ps) (s : AtExit (endedOf 1 section-kinds.ps section-kinds.r) κs) (r : Request)
+    → now (a .0) ≡ body → section-reads.Post κs a r s → r .thr ≡ 33554432 → ⊥
+thr-high κs a s r b e f =
+    let h : r ≡ sectionIn body = e ∙ rw b in
+    let g : _≡_ {A = ℕ} (r .thr) 2 = ap (λ (q : Request). q .thr) h in
+    omega arith
+
+-- the path's mode follows the section's, and is not the section's
+pub mode-shared : (κs : Lfts 1) (a : Dens κs path-kinds.ps) (s : AtExit (endedOf 1 path-kinds.ps path-kinds.r) κs) (r : Request)
+    → now (a .0) ≡ body → path-reads.Post κs a r s → r .mode ≡ 1 → ⊥
+mode-shared κs a s r b e f =
+    let h : r ≡ pathIn body = e ∙ rw b in
+    let g : _≡_ {A = ℕ} (r .mode) 2 = ap (λ (q : Request). q .mode) h in
+    omega arith

@@ -1,0 +1,93 @@
+-- A trace's records: what a list of bytes begins with (document 01, "Trace records and the listing"). Assumes nothing.
+use Prim.Native.Nat.{ℕ, _+_, _-_, _*_, _≤_}
+use mathlib.Core.Bool.{cond}
+use mathlib.Core.List.{List}
+use lib.ListN.{length, getD, drop, take}
+use lib.Dec.{ltb, eqb}
+use Rattle.settings.specs.declared.Request.{Request}
+use Rattle.record.specs.declared.Record.{Record}
+use Rattle.record.specs.declared.Record.the-variants.{Frame, Mark, Provisioning, Refused}
+
+-- "A record is either a frame, a mark, a provisioning or a refusal." Document 01's numbers for each case: the kind,
+abbrev pub kindOf : Record → ℕ
+kindOf Frame = 1
+kindOf Mark = 2
+kindOf Provisioning = 3
+kindOf (Refused n) = 0
+
+-- the length, "counting kind and body": "Kind 1, length 69", "Kind 2, length 2", "Kind 3, length 81",
+abbrev pub lengthOf : Record → ℕ
+lengthOf Frame = 69
+lengthOf Mark = 2
+lengthOf Provisioning = 81
+lengthOf (Refused n) = 0
+
+-- and the refusal, 0 where there is none
+abbrev pub refusalOf : Record → ℕ
+refusalOf Frame = 0
+refusalOf Mark = 0
+refusalOf Provisioning = 0
+refusalOf (Refused n) = n
+
+-- two bytes and four, "all little-endian"
+abbrev pub twoAt : List ℕ → ℕ → ℕ
+twoAt s at = getD s at 0 + 256 * getD s (at + 1) 0
+
+abbrev pub fourAt : List ℕ → ℕ → ℕ
+fourAt s at = twoAt s at + 65536 * twoAt s (at + 2)
+
+-- the record of a kind: 15 "kind unknown"
+unfoldable pub ofKind : ℕ → Record
+ofKind kind = cond (eqb kind (kindOf Frame)) Frame (cond (eqb kind (kindOf Mark)) Mark (cond (eqb kind (kindOf Provisioning)) Provisioning (Refused 15)))
+
+-- The record that a list of bytes begins with: "Two-byte length counting kind and body, two-byte kind, body". "Records: fewer than 4 bytes
+-- is 14, then 15, a cut body 14": 15 is "kind unknown, or length wrong for it".
+unfoldable pub recordOf : List ℕ → Record
+recordOf ys =
+    let r : Record = ofKind (twoAt ys 2) in
+    cond (ltb (length ys) 4)
+    (Refused 14)
+    (cond (eqb (lengthOf r) 0)
+    (Refused 15)
+    (cond (eqb (twoAt ys 0) (lengthOf r))
+    (cond (ltb (length ys) (lengthOf r + 2)) (Refused 14) r)
+    (Refused 15)))
+
+-- the record at a position
+abbrev pub recordAt : List ℕ → ℕ → Record
+recordAt s at = recordOf (drop at s)
+
+-- the bytes of a record, its length among them
+abbrev pub sizeOf : Record → ℕ
+sizeOf r = lengthOf r + 2
+
+-- the body of a record that a list begins with: what follows the length and the kind
+abbrev pub bodyOf : Record → List ℕ → List ℕ
+bodyOf r ys = take (lengthOf r - 2) (drop 4 ys)
+
+-- how many frames a record is
+abbrev pub framesIn : Record → ℕ
+framesIn Frame = 1
+framesIn Mark = 0
+framesIn Provisioning = 0
+framesIn (Refused n) = 0
+
+-- a record stands whole at a position, or it is a refusal
+abbrev pub Within : List ℕ → ℕ → Record → Type 0
+Within s at Frame = at + 71 ≤ length s
+Within s at Mark = at + 4 ≤ length s
+Within s at Provisioning = at + 83 ≤ length s
+Within s at (Refused n) = Unit {0}
+
+-- what a provisioning's body asks for a layer, by where its DEGThr stands and where its trace mode: DEGM follows DEGThr, and TIMActDis stands
+-- two bytes after the mode
+abbrev pub requestAt : List ℕ → ℕ → ℕ → Request
+requestAt body thr mode = record { thr = fourAt body thr; degm = getD body (thr + 4) 0; mode = getD body mode 0; dis = getD body (mode + 2) 0 }
+
+-- "Kind 3, length 81: k, SM DEGThr (4), SM DEGM, PM DEGThr (4), PM DEGM, SM mode, PM mode, SM TIMActDis, PM TIMActDis, SM names (32), PM
+-- names (32)."
+abbrev pub sectionIn : List ℕ → Request
+sectionIn body = record { thr = fourAt body 1; degm = getD body 5 0; mode = getD body 11 0; dis = getD body 13 0 }
+
+abbrev pub pathIn : List ℕ → Request
+pathIn body = record { thr = fourAt body 6; degm = getD body 10 0; mode = getD body 12 0; dis = getD body 14 0 }

@@ -1,0 +1,58 @@
+-- Answers that tempting readings give, shut out by the contracts of this crate. Assumes nothing.
+use Prim.Native.Nat.{ℕ}
+use mathlib.Core.Path.{_≡_}
+use mathlib.Core.Bool.{true, false}
+use mathlib.Core.List.{List}
+use native.Mathlib.Omega.{arith}
+use lib.ListN.{getD}
+use contract.Lifetimes.{Lfts}
+use borrow.Fn.Kinds.{Dens, endedOf}
+use denote.Triple.Clauses.{AtExit}
+use Rattle.overhead.specs.Overhead.{farBlock}
+use Rattle.causes.specs.Causes.{ssfOf}
+use Rattle.filter.specs.Filter.{upOf}
+use Rattle.second.specs.Second.{nearOf, farOf, blocksOf, countOf, discardOf, closedOf}
+use Rattle.second.specs.declared.Second.{Second}
+use Rattle.second.proofs.count.Kinds as count-kinds
+use Rattle.second.proofs.count.Reads as count-reads
+use Rattle.second.proofs.closed.Kinds as closed-kinds
+use Rattle.second.proofs.closed.Reads as closed-reads
+use Rattle.second.proofs.figures.Kinds as figures-kinds
+use Rattle.second.proofs.figures.Reads as figures-reads
+use Rattle.second.proofs.fresh_second.Kinds as fresh-second-kinds
+use Rattle.second.proofs.fresh_second.Reads as fresh-second-reads
+
+-- a near block is not counted in a frame in which SSF stands
+pub counted-under-ssf : (κs : Lfts 0) (a : Dens κs count-kinds.ps) (x : Second) (s : AtExit (endedOf 0 count-kinds.ps count-kinds.r) κs)
+    → a .0 .section .near .0 ≡ 0 → ssfOf (a .1 .0 .line) ≡ true → a .1 .1 .1 .0 ≡ 1 → x .section .near .0 ≡ 1 → count-reads.Post κs a x s → ⊥
+unfolding countOf blocksOf nearOf
+counted-under-ssf κs a x s zero ssf one near e = let h : _≡_ {A = ℕ} 0 1 = simp (e, ssf, one, zero) at near in omega arith
+
+-- OOF alone stops no count
+pub oof-stops : (κs : Lfts 0) (a : Dens κs count-kinds.ps) (x : Second) (s : AtExit (endedOf 0 count-kinds.ps count-kinds.r) κs)
+    → a .0 .section .near .0 ≡ 0 → ssfOf (a .1 .0 .line) ≡ false → a .1 .0 .line .inframe ≡ false → a .1 .1 .1 .0 ≡ 1 → x .section .near .0 ≡ 0
+    → count-reads.Post κs a x s → ⊥
+unfolding countOf blocksOf nearOf upOf
+oof-stops κs a x s zero ssf oof one near e = let h : _≡_ {A = ℕ} 1 0 = simp (e, ssf, one, zero) at near in omega arith
+
+-- BEI 9 is no far-end block
+pub nine-counted : (κs : Lfts 0) (a : Dens κs count-kinds.ps) (x : Second) (s : AtExit (endedOf 0 count-kinds.ps count-kinds.r) κs)
+    → a .0 .section .far .0 ≡ 0 → a .1 .1 .0 .section .bei ≡ 9 → x .section .far .0 ≡ 1 → count-reads.Post κs a x s → ⊥
+unfolding countOf blocksOf farOf farBlock
+nine-counted κs a x s zero nine far e = let h : _≡_ {A = ℕ} 0 1 = simp (e, nine, zero) at far in omega arith
+
+-- a second in which dBIAE stood loses its far values
+pub biae-keeps-far : (κs : Lfts 0) (a : Dens κs closed-kinds.ps) (x : Second) (s : AtExit (endedOf 0 closed-kinds.ps closed-kinds.r) κs)
+    → a .0 .iae ≡ false → a .0 .biae ≡ true → a .0 .section .far .0 ≡ 1 → x .section .far .0 ≡ 1 → closed-reads.Post κs a x s → ⊥
+unfolding closedOf discardOf
+biae-keeps-far κs a x s iae biae one far e = let h : _≡_ {A = ℕ} 0 1 = simp (e, iae, biae) at far in omega arith
+
+-- near before far
+pub far-before-near : (κs : Lfts 0) (a : Dens κs figures-kinds.ps) (x : List ℕ) (s : AtExit (endedOf 0 figures-kinds.ps figures-kinds.r) κs)
+    → a .1 .0 .section .near .0 ≡ 1 → a .1 .0 .section .far .0 ≡ 2 → getD x 12 0 ≡ 2 → figures-reads.Post κs a x s → ⊥
+far-before-near κs a x s near far two e = let h : _≡_ {A = ℕ} 1 2 = simp (e, near) at two in omega arith
+
+-- a second opens with no frame under clear
+pub opens-with-one : (κs : Lfts 0) (a : Dens κs fresh-second-kinds.ps) (x : Second) (s : AtExit (endedOf 0 fresh-second-kinds.ps fresh-second-kinds.r) κs)
+    → getD (x .heads) 0 0 ≡ 1 → fresh-second-reads.Post κs a x s → ⊥
+opens-with-one κs a x s one e = let h : _≡_ {A = ℕ} 0 1 = rw e at one in omega arith

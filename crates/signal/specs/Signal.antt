@@ -1,0 +1,49 @@
+-- "Path STAT" (document 01): what an accepted code raises (6.2.6.3.2, 6.2.6.8.2, 6.2.6.9.1). Assumes nothing.
+use Prim.Native.Nat.{ℕ}
+use mathlib.Core.Bool.{Bool, true, false, cond, _||_}
+use mathlib.Core.List.{List, [], _∷_}
+use lib.Dec.{eqb}
+use Rattle.filter.specs.declared.Stat.{Stat}
+use Rattle.signal.specs.declared.Signal.{Signal}
+use Rattle.signal.specs.declared.Raised.{Raised}
+use Rattle.signal.specs.declared.Signal.the-variants.{Clear, Lck, Oci, Ais}
+
+-- "Eight three-bit codes are possible: 111 is dAIS, 110 dOCI, 101 dLCK; 000 to 100 raise nothing."
+abbrev pub codesOf : Signal → List ℕ
+codesOf Ais = 7 ∷ []
+codesOf Oci = 6 ∷ []
+codesOf Lck = 5 ∷ []
+codesOf Clear = 0 ∷ 1 ∷ 2 ∷ 3 ∷ 4 ∷ []
+
+abbrev pub among : ℕ → List ℕ → Bool
+among v [] = false
+among v (x ∷ xs) = eqb v x || among v xs
+
+-- the case that has the code
+unfoldable pub signalOf : ℕ → Signal
+signalOf v = cond (among v (codesOf Ais)) Ais (cond (among v (codesOf Oci)) Oci (cond (among v (codesOf Lck)) Lck Clear))
+
+-- nothing is raised until a STAT is accepted
+unfoldable pub standsFor : Stat → Signal
+standsFor s = cond (s .known) (signalOf (s .accepted)) Clear
+
+abbrev pub isAis : Signal → Bool
+isAis Ais = true
+isAis Oci = false
+isAis Lck = false
+isAis Clear = false
+
+abbrev pub isOci : Signal → Bool
+isOci Ais = false
+isOci Oci = true
+isOci Lck = false
+isOci Clear = false
+
+abbrev pub isLck : Signal → Bool
+isLck Ais = false
+isLck Oci = false
+isLck Lck = true
+isLck Clear = false
+
+abbrev pub raisedOf : Signal → Raised
+raisedOf s = record { ais = isAis s; oci = isOci s; lck = isLck s }

@@ -1,0 +1,346 @@
+-- Wherever a scan stands its offset and its frames are `Counted`; and a record that is cut lies in fewer than 83 bytes. Assumes nothing.
+use Prim.Native.Nat.{ℕ, _+_, _-_, _≤_, _<_}
+use mathlib.Core.Path.{_≡_, refl, _∙_, sym, subst}
+use mathlib.Core.Bool.{Bool, true, false, cond}
+use mathlib.Core.List.{List, []}
+use native.Mathlib.Nat.{add-assoc, add-zero, add-sub-cancel-left}
+use native.Mathlib.Omega.{arith}
+use lib.Dec.{eqb, ltb}
+use lib.Seq.{drop-drop}
+use lib.ListN.{length, getD, take, drop, length-drop, drop-of-length-le}
+use borrow.Author.Tests.{ltb-true, lt-ltb, eqb-true, eq-eqb}
+use Rattle.answer.proofs.Checks.{passed, first-low}
+use Rattle.answer.proofs.Cond.{cond-under, by-cond, not-so}
+use Rattle.filter.specs.Filter.{upOf}
+use Rattle.history.specs.History.{mark, refusalOf}
+use Rattle.settings.specs.Settings.{settingsChecks, settingsRefusal}
+use Rattle.second.specs.Second.{countOf, oneFrame}
+use Rattle.supervisor.specs.Supervisor.{provisionOf, stepChecks, stepRefusal, frameOf, stepOf, nextSecond, markOf}
+use Rattle.settings.specs.declared.Request.{Request}
+use Rattle.supervisor.specs.declared.Provisioned.{Provisioned}
+use Rattle.supervisor.specs.declared.Stepped.{Stepped}
+use Rattle.supervisor.specs.declared.Marked.{Marked}
+use Rattle.supervisor.specs.declared.Supervisor.{Supervisor}
+use Rattle.record.specs.Record.{recordOf, sizeOf, bodyOf, framesIn, sectionIn, pathIn}
+use Rattle.trace.specs.Scan.{startOf, stepIn, framedOf, markedOf, provisionedOf, appliedOf, takenOf, runOf}
+use Rattle.stream.specs.Stream.{Scan, scanFrom}
+use Rattle.stream.specs.Counts.{Counted}
+use Rattle.record.specs.declared.Record.{Record}
+use Rattle.record.specs.declared.Record.the-variants.{Frame, Mark, Provisioning, Refused}
+use Rattle.trace.specs.declared.State.{State}
+use Rattle.trace.specs.declared.Taken.{Taken}
+use Rattle.trace.specs.declared.Run.{Run}
+use Rattle.trace.specs.declared.Stop.the-variants as stop
+use Rattle.record.proofs.Records.{Whole, whole-record}
+use Rattle.trace.proofs.Scans.{sized, run-end, run-refused, run-closed, run-told, run-on}
+use Rattle.stream.proofs.Streams.{along, some-left, scan-refused, scan-on}
+
+-- the refusal of each call is that of its tests
+zero-or : (n : ℕ) (t : Bool) → eqb n 0 ≡ t → cond t 0 n ≡ n
+zero-or n true e = sym (eqb-true n 0 e)
+zero-or n false e = refl
+
+pub step-says : (s : Supervisor) (overhead : List ℕ) (flags sm pm : ℕ) → stepOf s overhead flags sm pm .refusal ≡ stepRefusal s overhead flags sm pm
+unfolding stepOf
+step-says s overhead flags sm pm =
+    cond-under (λ (z : Stepped). z .refusal) (eqb (stepRefusal s overhead flags sm pm) 0) _ _ ∙ zero-or (stepRefusal s overhead flags sm pm) (eqb (stepRefusal s overhead flags sm pm) 0) refl
+
+pub provision-says : (k : ℕ) (section path : Request) (snames pnames : List ℕ) → provisionOf k section path snames pnames .refusal ≡ settingsRefusal k section path snames pnames
+unfolding provisionOf
+provision-says k section path snames pnames =
+    cond-under (λ (z : Provisioned). z .refusal) (eqb (settingsRefusal k section path snames pnames) 0) _ _ ∙ zero-or (settingsRefusal k section path snames pnames) (eqb (settingsRefusal k section path snames pnames) 0) refl
+
+pub mark-says : (s : Supervisor) → markOf s .refusal ≡ refusalOf s mark
+unfolding markOf refusalOf
+mark-says s = cond-under (λ (m : Marked). m .refusal) (ltb (s .seconds) 4294967295) _ _
+
+-- none of them is 14
+step-low : (s : Supervisor) (overhead : List ℕ) (flags sm pm : ℕ) → stepOf s overhead flags sm pm .refusal ≤ 4
+unfolding stepRefusal
+step-low s overhead flags sm pm = rw (step-says s overhead flags sm pm) (first-low 4 (stepChecks s overhead flags sm pm) refl)
+
+provision-low : (k : ℕ) (section path : Request) (snames pnames : List ℕ) → provisionOf k section path snames pnames .refusal ≤ 10
+unfolding settingsRefusal
+provision-low k section path snames pnames = rw (provision-says k section path snames pnames) (first-low 10 (settingsChecks k section path snames pnames) refl)
+
+mark-low : (s : Supervisor) → markOf s .refusal ≤ 4
+unfolding markOf
+mark-low s = by-cond (λ (m : Marked). m .refusal ≤ 4) (ltb (s .seconds) 4294967295) (λ _. omega arith) (λ _. omega arith)
+
+-- a record that is refused as cut lies in fewer than 83 bytes
+cut-by : (st : State) (ys body : List ℕ) (r : Record) → Whole ys r → appliedOf st r body .refusal ≡ 14 → length ys < 83
+unfolding framedOf markedOf provisionedOf
+cut-by st ys body Frame h =
+    by-cond (λ (t : Taken). t .refusal ≡ 14 → length ys < 83) (st .begun)
+    (λ _ e. absurd (omega (arith, e, step-low (st .sup) (take 64 body) (getD body 64 0) (getD body 65 0) (getD body 66 0))))
+    (λ _ e. absurd (omega (arith, e)))
+cut-by st ys body Mark h =
+    by-cond (λ (t : Taken). t .refusal ≡ 14 → length ys < 83) (st .begun) (λ _ e. absurd (omega (arith, e, mark-low (st .sup)))) (λ _ e. absurd (omega (arith, e)))
+cut-by st ys body Provisioning h =
+    by-cond (λ (t : Taken). t .refusal ≡ 14 → length ys < 83) (st .begun) (λ _ e. absurd (omega (arith, e)))
+    (λ _ e. absurd (omega (arith, e, provision-low (getD body 0 0) (sectionIn body) (pathIn body) (take 32 (drop 15 body)) (take 32 (drop 47 body)))))
+cut-by st ys body (Refused n) h = h .1
+
+pub cut-short : (st : State) (ys : List ℕ) → takenOf st ys .refusal ≡ 14 → length ys < 83
+unfolding takenOf
+cut-short st ys = cut-by st ys (bodyOf (recordOf ys) ys) (recordOf ys) (whole-record ys)
+
+-- the supervisor after an accepted frame, an accepted mark and a provisioning, as far as it is counted
+pub record Frames (s t : Supervisor) : Type 0 where
+  pub room : s .second .frames .0 < 400000
+  pub more : t .second .frames .0 ≡ s .second .frames .0 + 1
+  pub same : t .seconds ≡ s .seconds
+
+pub step-frames : (s : Supervisor) (overhead : List ℕ) (flags sm pm : ℕ) → stepOf s overhead flags sm pm .refusal ≡ 0 → Frames s (stepOf s overhead flags sm pm .supervisor)
+unfolding stepOf stepRefusal frameOf countOf oneFrame upOf
+step-frames s overhead flags sm pm e =
+    let z : stepRefusal s overhead flags sm pm ≡ 0 = sym (step-says s overhead flags sm pm) ∙ e in
+    let l : s .second .frames .0 < 400000 = ltb-true _ _ (passed 4 (stepChecks s overhead flags sm pm) refl z .1 .1 .1 .0) in
+    rw (eq-eqb (stepRefusal s overhead flags sm pm) 0 z) (record { room = l; more = rw (lt-ltb (s .second .frames .0) 400000 l); same = refl })
+
+pub record Marks (s : Supervisor) (m : Marked) : Type 0 where
+  pub room : s .seconds < 4294967295
+  pub none : m .supervisor .second .frames .0 ≡ 0
+  pub more : m .supervisor .seconds ≡ s .seconds + 1
+  pub twenty : length (m .figures) ≡ 20
+
+pub mark-marks : (s : Supervisor) → markOf s .refusal ≡ 0 → Marks s (markOf s)
+unfolding markOf nextSecond
+mark-marks s =
+    by-cond (λ (m : Marked). m .refusal ≡ 0 → Marks s m) (ltb (s .seconds) 4294967295)
+    (λ e _. record { room = ltb-true _ _ e; none = refl; more = refl; twenty = refl })
+    (λ _ e. absurd (omega (arith, e)))
+
+pub provision-none : (k : ℕ) (section path : Request) (snames pnames : List ℕ) → (provisionOf k section path snames pnames .supervisor .seconds ≡ 0) × (provisionOf k section path snames pnames .supervisor .second .frames .0 ≡ 0)
+unfolding provisionOf
+provision-none k section path snames pnames =
+    by-cond (λ (p : Provisioned). (p .supervisor .seconds ≡ 0) × (p .supervisor .second .frames .0 ≡ 0)) (eqb (settingsRefusal k section path snames pnames) 0) (λ _. (refl, refl)) (λ _. (refl, refl))
+
+-- a scan starts so, and every accepted record keeps it so
+pub start-counted : Counted 0 0 startOf
+start-counted = record { fresh = λ _. (refl, refl); held = omega arith; seconds = omega arith; few = omega arith; twenty = refl; within = omega arith }
+
+module _ (at n : ℕ) (st : State) (h : Counted at n st) where
+  abbrev Kept : Record → Taken → Type 0
+  Kept r t = t .refusal ≡ 0 → Counted (at + sizeOf r) (n + framesIn r) (t .state)
+
+  kept-by : (ys : List ℕ) (r : Record) (body : List ℕ) → Whole ys r → Kept r (appliedOf st r body)
+  unfolding framedOf markedOf provisionedOf
+  kept-by ys Frame body w =
+      by-cond (Kept Frame) (st .begun)
+      (λ _ e.
+      let f : Frames (st .sup) (stepIn st body .supervisor) = step-frames (st .sup) (take 64 body) (getD body 64 0) (getD body 65 0) (getD body 66 0) e in
+      record {
+        fresh = λ z. absurd (not-so z);
+        held = omega (arith, f .room, f .more);
+        seconds = omega (arith, f .same, h .seconds);
+        few = omega (arith, f .more, f .same, h .few);
+        twenty = h .twenty;
+        within = omega (arith, f .same, h .within);
+      })
+      (λ _ e. absurd (omega (arith, e)))
+  kept-by ys Mark body w =
+      by-cond (Kept Mark) (st .begun)
+      (λ _ e.
+      let f : Marks (st .sup) (markOf (st .sup)) = mark-marks (st .sup) e in
+      record {
+        fresh = λ z. absurd (not-so z);
+        held = omega (arith, f .none);
+        seconds = omega (arith, f .room, f .more);
+        few = omega (arith, f .none, f .more, h .few, h .held);
+        twenty = f .twenty;
+        within = omega (arith, f .more, h .within);
+      })
+      (λ _ e. absurd (omega (arith, e)))
+  kept-by ys Provisioning body w =
+      by-cond (Kept Provisioning) (st .begun) (λ _ e. absurd (omega (arith, e)))
+      (λ b e.
+      let f = provision-none (getD body 0 0) (sectionIn body) (pathIn body) (take 32 (drop 15 body)) (take 32 (drop 47 body)) in
+      let z = h .fresh b in
+      record {
+        fresh = λ z. absurd (not-so z);
+        held = omega (arith, f .1);
+        seconds = omega (arith, f .0);
+        few = omega (arith, f .0, f .1, z .1);
+        twenty = h .twenty;
+        within = omega (arith, f .0, z .0, z .1);
+      })
+  kept-by ys (Refused m) body w = λ e. absurd (omega (arith, w .0, e))
+
+  pub taken-counted : (ys : List ℕ) → Kept (recordOf ys) (takenOf st ys)
+  unfolding takenOf
+  taken-counted ys = kept-by ys (recordOf ys) (bodyOf (recordOf ys) ys) (whole-record ys)
+
+-- and so does a run over a buffer that starts at the offset base, m frames before it
+module _ (tell : Bool) (s : List ℕ) (base m : ℕ) where
+  abbrev Keeps : ℕ → ℕ → State → Type 0
+  Keeps at n st = Counted (base + at) (m + n) st → Counted (base + runOf tell s at n st .at) (m + runOf tell s at n st .frames) (runOf tell s at n st .state)
+
+  pub run-counted : (at n : ℕ) (st : State) → Keeps at n st
+  run-counted =
+      along s Keeps
+      (λ at n st l h. rw (run-end tell s at n st l) h)
+      (λ at n st l z h. rw (run-refused tell (drop at s) at n st (some-left s at l) z) h)
+      (λ at n st l e c _ h. rw (run-closed tell (drop at s) at n st (some-left s at l) e c) (next at n st e h))
+      (λ at n st l e c ih h. further tell refl at n st l e c ih h)
+    where
+      next : (at n : ℕ) (st : State) → takenOf st (drop at s) .refusal ≡ 0 → Counted (base + at) (m + n) st
+          → Counted (base + (at + sizeOf (recordOf (drop at s)))) (m + (n + framesIn (recordOf (drop at s)))) (takenOf st (drop at s) .state)
+      next at n st e h = rw (← add-assoc base at (sizeOf (recordOf (drop at s))), ← add-assoc m n (framesIn (recordOf (drop at s)))) (taken-counted (base + at) (m + n) st h (drop at s) e)
+
+      further : (b : Bool) → tell ≡ b → (at n : ℕ) (st : State) → at < length s → takenOf st (drop at s) .refusal ≡ 0 → takenOf st (drop at s) .closed ≡ false
+          → Keeps (at + sizeOf (recordOf (drop at s))) (n + framesIn (recordOf (drop at s))) (takenOf st (drop at s) .state) → Keeps at n st
+      further true z at n st l e c ih h = rw (z, run-told (drop at s) at n st (some-left s at l) e c) (next at n st e h)
+      further false z at n st l e c ih h = rw (z, run-on (drop at s) at n st e c, drop-drop (sizeOf (recordOf (drop at s))) at s) (rw z at (ih (next at n st e h)))
+
+-- an accepted record that closes no second is no mark: it has 71 bytes at least
+quiet-by : (st : State) (ys : List ℕ) (r : Record) (body : List ℕ) → Whole ys r → appliedOf st r body .refusal ≡ 0 → appliedOf st r body .closed ≡ false → 71 ≤ sizeOf r
+unfolding markedOf
+quiet-by st ys Frame body w = λ e c. omega arith
+quiet-by st ys Mark body w = by-cond (λ (t : Taken). t .refusal ≡ 0 → t .closed ≡ false → 71 ≤ 4) (st .begun) (λ _ e c. absurd (not-so c)) (λ _ e c. absurd (omega (arith, e)))
+quiet-by st ys Provisioning body w = λ e c. omega arith
+quiet-by st ys (Refused n) body w = λ e c. absurd (omega (arith, w .0, e))
+
+quiet : (st : State) (ys : List ℕ) → takenOf st ys .refusal ≡ 0 → takenOf st ys .closed ≡ false → 71 ≤ sizeOf (recordOf ys)
+unfolding takenOf
+quiet st ys = quiet-by st ys (recordOf ys) (bodyOf (recordOf ys) ys) (whole-record ys)
+
+-- Where a run stops: not before it began, within the list, at least four bytes on where a second was closed and 71 where a record was told,
+-- and with fewer than 83 bytes left where a record was cut.
+pub record Stands (s : List ℕ) (at : ℕ) (r : Run) : Type 0 where
+  pub later : at ≤ r .at
+  pub inside : r .at ≤ length s
+  pub further : r .stop ≡ stop.Closed → at + 4 ≤ r .at
+  pub told : r .stop ≡ stop.Told → at + 71 ≤ r .at
+  pub all : r .stop ≡ stop.More → r .at ≡ length s
+  pub same : (n o : ℕ) → r .stop ≡ stop.Refused n o → o ≡ r .at
+  pub cut : (o : ℕ) → r .stop ≡ stop.Refused 14 o → length s < r .at + 83
+
+absurd-stop : {A : Type 0} → _≡_ {A = ℕ} 0 1 → A
+absurd-stop z = absurd (omega (arith, z))
+
+module _ (tell : Bool) (s : List ℕ) where
+  abbrev Standing : ℕ → ℕ → State → Type 0
+  Standing at n st = at ≤ length s → Stands s at (runOf tell s at n st)
+
+  pub stands : (at n : ℕ) (st : State) → Standing at n st
+  stands =
+      along s Standing
+      (λ at n st l w. rw (run-end tell s at n st l) (record {
+        later = omega arith;
+        inside = w;
+        further = λ q. absurd-stop cc;
+        told = λ q. absurd-stop cc;
+        all = λ _. omega arith;
+        same = λ m o q. absurd-stop cc;
+        cut = λ o q. absurd-stop cc;
+      }))
+      (λ at n st l z w. rw (run-refused tell (drop at s) at n st (some-left s at l) z) (record {
+        later = omega arith;
+        inside = w;
+        further = λ q. absurd-stop cc;
+        told = λ q. absurd-stop cc;
+        all = λ q. absurd-stop cc;
+        same = λ m o q. cc;
+        cut = λ o q. let e : takenOf st (drop at s) .refusal ≡ 14 = cc in omega (arith, simp length-drop at (cut-short st (drop at s) e));
+      }))
+      (λ at n st l e c _ w.
+      let z = sized st (drop at s) e in
+      rw (run-closed tell (drop at s) at n st (some-left s at l) e c) (record {
+        later = omega arith;
+        inside = omega (arith, simp length-drop at (z .long));
+        further = λ _. omega (arith, z .some);
+        told = λ q. absurd-stop cc;
+        all = λ q. absurd-stop cc;
+        same = λ m o q. absurd-stop cc;
+        cut = λ o q. absurd-stop cc;
+      }))
+      (λ at n st l e c ih w. quietly tell refl at n st l e c ih)
+    where
+      quietly : (b : Bool) → tell ≡ b → (at n : ℕ) (st : State) → at < length s → takenOf st (drop at s) .refusal ≡ 0 → takenOf st (drop at s) .closed ≡ false
+          → Standing (at + sizeOf (recordOf (drop at s))) (n + framesIn (recordOf (drop at s))) (takenOf st (drop at s) .state) → Stands s at (runOf tell s at n st)
+      quietly true b at n st l e c ih =
+          let z = sized st (drop at s) e in
+          rw (b, run-told (drop at s) at n st (some-left s at l) e c) (record {
+            later = omega arith;
+            inside = omega (arith, simp length-drop at (z .long));
+            further = λ q. absurd-stop cc;
+            told = λ _. omega (arith, quiet st (drop at s) e c);
+            all = λ q. absurd-stop cc;
+            same = λ m o q. absurd-stop cc;
+            cut = λ o q. absurd-stop cc;
+          })
+      quietly false b at n st l e c ih =
+          let z = sized st (drop at s) e in
+          let h = rw b at (ih (omega (arith, simp length-drop at (z .long)))) in
+          rw (b, run-on (drop at s) at n st e c, drop-drop (sizeOf (recordOf (drop at s))) at s) (record {
+            later = omega (arith, h .later);
+            inside = h .inside;
+            further = λ q. omega (arith, h .further q);
+            told = λ q. omega (arith, h .told q);
+            all = h .all;
+            same = h .same;
+            cut = h .cut;
+          })
+
+-- Where a scan stands, of s that starts at the offset base: its offset lies in s, what is left is what follows it there; it is `Counted`; and
+-- where it could go on, fewer than 83 bytes are left.
+pub record Comes (s : List ℕ) (base at : ℕ) (c : Scan) : Type 0 where
+  pub low : base + at ≤ c .at
+  pub high : at ≤ length s → c .at ≤ base + length s
+  pub rest : c .rest ≡ drop (c .at - base) s
+  pub counted : Counted (c .at) (c .frames) (c .state)
+  pub none : c .refusal ≡ 0 → length (c .rest) ≡ 0
+  pub cut : c .refusal ≡ 14 → length (c .rest) < 83
+
+module _ (tell : Bool) (s : List ℕ) (base m : ℕ) where
+  abbrev Coming : ℕ → ℕ → State → Type 0
+  Coming at n st = Counted (base + at) (m + n) st → Comes s base at (scanFrom tell (drop at s) 0 (base + at) (m + n) st)
+
+  coming-end : (at n : ℕ) (st : State) → length s ≤ at → Coming at n st
+  unfolding scanFrom
+  coming-end at n st l h =
+      let z : drop at s ≡ [] = drop-of-length-le s l in
+      rw z (record {
+        low = omega arith;
+        high = λ w. omega (arith, w);
+        rest = rw (add-sub-cancel-left base at) (sym z);
+        counted = h;
+        none = λ _. refl;
+        cut = λ _. omega arith;
+      })
+
+  coming-refused : (at n : ℕ) (st : State) → at < length s → (takenOf st (drop at s) .refusal ≡ 0 → ⊥) → Coming at n st
+  coming-refused at n st l z h =
+      rw (scan-refused tell (drop at s) (base + at) (m + n) st (some-left s at l) z) (record {
+        low = omega arith;
+        high = λ _. omega arith;
+        rest = rw (add-sub-cancel-left base at);
+        counted = h;
+        none = λ e. absurd (z e);
+        cut = cut-short st (drop at s);
+      })
+
+  coming-on : (at n : ℕ) (st : State) → at < length s → takenOf st (drop at s) .refusal ≡ 0
+      → Coming (at + sizeOf (recordOf (drop at s))) (n + framesIn (recordOf (drop at s))) (takenOf st (drop at s) .state) → Coming at n st
+  coming-on at n st l e ih h =
+      let z = sized st (drop at s) e in
+      let f : at + sizeOf (recordOf (drop at s)) ≤ length s = omega (arith, simp length-drop at (z .long)) in
+      let g : Counted (base + (at + sizeOf (recordOf (drop at s)))) (m + (n + framesIn (recordOf (drop at s)))) (takenOf st (drop at s) .state) = rw (← add-assoc base at (sizeOf (recordOf (drop at s))), ← add-assoc m n (framesIn (recordOf (drop at s)))) (taken-counted (base + at) (m + n) st h (drop at s) e) in
+      let k = ih g in
+      rw (scan-on tell (drop at s) (base + at) (m + n) st e, drop-drop (sizeOf (recordOf (drop at s))) at s, add-assoc base at (sizeOf (recordOf (drop at s))), add-assoc m n (framesIn (recordOf (drop at s)))) (record {
+        low = omega (arith, k .low);
+        high = λ _. k .high f;
+        rest = k .rest;
+        counted = k .counted;
+        none = k .none;
+        cut = k .cut;
+      })
+
+  coming : (at n : ℕ) (st : State) → Coming at n st
+  coming = along s Coming coming-end coming-refused (λ at n st l e c h. coming-on at n st l e h) (λ at n st l e c h. coming-on at n st l e h)
+
+pub comes : (tell : Bool) (s : List ℕ) (at n : ℕ) (st : State) → Counted at n st → Comes s at 0 (scanFrom tell s 0 at n st)
+comes tell s at n st h =
+    subst (λ (k : ℕ). Comes s at 0 (scanFrom tell s 0 at k st)) (add-zero n)
+    (subst (λ (k : ℕ). Comes s at 0 (scanFrom tell s 0 k (n + 0) st)) (add-zero at) (coming tell s at n 0 0 st (rw (add-zero at, add-zero n) h)))

@@ -1,0 +1,3 @@
+pub mod Streams
+pub mod Counts
+pub mod Figures

@@ -1,0 +1,3 @@
+pub mod Stream
+pub mod Counts
+pub mod Figures

@@ -1,0 +1,96 @@
+-- The scan of a whole trace, and the scan of it in pieces (document 01, "Trace records and the listing"). Assumes nothing.
+use Prim.Native.Nat.{ℕ, zero, suc, pred, _+_}
+use mathlib.Core.Bool.{Bool, true, cond}
+use mathlib.Core.List.{List, [], _∷_, _++_}
+use lib.Dec.{eqb}
+use lib.ListN.{drop}
+use Rattle.record.specs.declared.Record.{Record}
+use Rattle.trace.specs.declared.Taken.{Taken}
+use Rattle.trace.specs.declared.Run.{Run}
+use Rattle.trace.specs.declared.Stop.{Stop}
+use Rattle.trace.specs.declared.Stop.the-variants as stop
+use Rattle.trace.specs.declared.State.{State}
+use Rattle.record.specs.Record.{recordOf, sizeOf, framesIn}
+use Rattle.trace.specs.Scan.{takenOf, startOf}
+
+-- What is told of an accepted record: the figures of the second that it closed; or, where every record is told, the number of frames accepted
+-- with it, and the states before and after it.
+pub data Note : Type 0 where
+  second : List ℕ → Note
+  change : ℕ → State → State → Note
+
+-- What a scan has come to: what was told, the state, the offset where it stands, the frames accepted, the refusal there (0: none), and the
+-- bytes from there on.
+pub record Scan : Type 0 where
+  pub told : List Note
+  pub state : State
+  pub at : ℕ
+  pub frames : ℕ
+  pub refusal : ℕ
+  pub rest : List ℕ
+
+-- a scan that stands where it began
+abbrev pub stopped : State → ℕ → ℕ → ℕ → List ℕ → Scan
+stopped st at n refusal rest = record { told = []; state = st; at = at; frames = n; refusal = refusal; rest = rest }
+
+-- a scan that follows what was told
+abbrev pub before : List Note → Scan → Scan
+before l c = record { told = l ++ c .told; state = c .state; at = c .at; frames = c .frames; refusal = c .refusal; rest = c .rest }
+
+-- what is told of an accepted record, n frames being accepted with it, and the state before it being st
+abbrev pub noted : Bool → ℕ → State → Taken → List Note
+noted tell n st t = cond (t .closed) (second (t .state .last) ∷ []) (cond tell (change n st (t .state) ∷ []) [])
+
+-- The scan of a list of bytes at an offset, n frames before it: skip the rest of the present record, then take the next. "The scan ends at
+-- the first record refused."
+unfoldable pub scanFrom : Bool → List ℕ → ℕ → ℕ → ℕ → State → Scan
+scanFrom tell [] skip at n st = stopped st at n 0 []
+scanFrom tell (y ∷ ys) (suc k) at n st = scanFrom tell ys k (at + 1) n st
+scanFrom tell (y ∷ ys) zero at n st =
+    let r : Record = recordOf (y ∷ ys) in
+    let t : Taken = takenOf st (y ∷ ys) in
+    cond (eqb (t .refusal) 0)
+    (before (noted tell (n + framesIn r) st t) (scanFrom tell ys (pred (sizeOf r)) (at + 1) (n + framesIn r) (t .state)))
+    (stopped st at n (t .refusal) (y ∷ ys))
+
+-- the scan of a whole trace
+abbrev pub scanOf : Bool → List ℕ → Scan
+scanOf tell xs = scanFrom tell xs 0 0 0 startOf
+
+-- a scan goes on with more bytes where nothing was refused or the record was cut (14)
+abbrev pub goesOn : ℕ → Bool
+goesOn n = cond (eqb n 0) true (eqb n 14)
+
+-- the scan of what is left of a scan with more bytes after it, from where it stands
+abbrev pub onward : Bool → Scan → List ℕ → Scan
+onward tell c ys = scanFrom tell (c .rest ++ ys) 0 (c .at) (c .frames) (c .state)
+
+-- a scan with more bytes
+unfoldable pub resume : Bool → Scan → List ℕ → Scan
+resume tell c ys =
+    cond (goesOn (c .refusal))
+    (before (c .told) (onward tell c ys))
+    (record { told = c .told; state = c .state; at = c .at; frames = c .frames; refusal = c .refusal; rest = c .rest ++ ys })
+
+-- a scan of pieces, one after the other, each as it comes
+unfoldable pub feedOf : Bool → Scan → List (List ℕ) → Scan
+feedOf tell c [] = c
+feedOf tell c (p ∷ ps) = feedOf tell (resume tell c p) ps
+
+unfoldable pub joined : List (List ℕ) → List ℕ
+joined [] = []
+joined (p ∷ ps) = p ++ joined ps
+
+-- What a run over a buffer's records has come to, as a scan: the buffer starts at the offset base, with n frames before it, and the run
+-- began in the state st.
+unfoldable pub after : Bool → ℕ → ℕ → State → List ℕ → Run → Scan
+after tell base n st s r = by-stop (r .stop)
+  where
+    on : Scan
+    on = scanFrom tell (drop (r .at) s) 0 (base + r .at) (n + r .frames) (r .state)
+
+    by-stop : Stop → Scan
+    by-stop stop.More = stopped (r .state) (base + r .at) (n + r .frames) 0 (drop (r .at) s)
+    by-stop (stop.Refused number offset) = stopped (r .state) (base + offset) (n + r .frames) number (drop offset s)
+    by-stop stop.Closed = before (second (r .state .last) ∷ []) on
+    by-stop stop.Told = before (change (n + r .frames) st (r .state) ∷ []) on

@@ -1,6 +1,0 @@
--- "Frames to be proved together", by computation. Assumes nothing.
-use Rattle.supervisor.specs.Cases.{allHold, FramesTogether}
-
-pub frames-together : FramesTogether
-unfolding allHold
-frames-together = tt

@@ -1,0 +1,104 @@
+-- Each field of a report is read back from its place. Assumes nothing.
+use mathlib.Core.Path.{_≡_, sym, ap, _∙_}
+use mathlib.Core.Bool.{Bool, true, false}
+use mathlib.Core.List.{List, [], _∷_, _++_}
+use Prim.Native.Nat.{ℕ, zero, suc, _+_, _/_, _%_, _^_, _≤_, _<_}
+use native.Mathlib.Nat.{not-suc-le-zero, le-of-suc-le-suc, mod-eq-of-lt, div-eq-of-lt, div-div-eq-div-mul, add-mul-div-left, add-mul-mod-self-left, div-one, zero-add}
+use native.Mathlib.Omega.{arith}
+use lib.ListN.{length}
+use lib.Pow.{pow-pos, pow-add}
+use Rattle.causes.specs.Causes.{reportOf, headOf}
+use Rattle.signal.specs.Signal.{isAis, isOci, isLck}
+use Rattle.causes.specs.declared.Line.{Line}
+use Rattle.causes.specs.declared.SectionStands.{SectionStands}
+use Rattle.causes.specs.declared.PathStands.{PathStands}
+use Rattle.causes.specs.declared.Standing.{Standing}
+use Rattle.causes.specs.declared.SectionActions.{SectionActions}
+use Rattle.causes.specs.declared.PathActions.{PathActions}
+use Rattle.causes.specs.declared.LineCauses.{LineCauses}
+use Rattle.causes.specs.declared.SectionCauses.{SectionCauses}
+use Rattle.causes.specs.declared.PathCauses.{PathCauses}
+use Rattle.causes.specs.declared.Report.{Report}
+use Rattle.causes.proofs.OneCause.{one-cause}
+use Rattle.answer.specs.Bits.{flag}
+use Rattle.word.specs.Report.{Field, packed, Fits, begins, fieldAt, bitsOf, lineFields, sectionFields, pathFields, sectionActed, pathActed, lineCaused, sectionCaused, pathCaused, reportFields, reportWord}
+
+-- what lies behind the first field
+behind : (f : Field) (fs : List Field) → f .value < 2 ^ f .width → packed (f ∷ fs) / 2 ^ f .width ≡ packed fs
+behind f fs h =
+    add-mul-div-left (f .value) (packed fs) (pow-pos (f .width))
+    ∙ ap (λ (n : ℕ). n + packed fs) (div-eq-of-lt h)
+    ∙ zero-add (packed fs)
+
+pub field-back : (i : ℕ) (fs : List Field) → Fits fs → i < length fs → bitsOf (packed fs) (begins i fs) (fieldAt i fs .width) ≡ fieldAt i fs .value
+field-back i [] z h = absurd (not-suc-le-zero h)
+field-back zero (f ∷ fs) z h =
+    ap (λ (n : ℕ). n % 2 ^ f .width) (div-one (packed (f ∷ fs))) ∙ add-mul-mod-self-left (f .value) (2 ^ f .width) (packed fs) ∙ mod-eq-of-lt (z .0)
+field-back (suc i) (f ∷ fs) z h =
+    let e : packed (f ∷ fs) / 2 ^ (f .width + begins i fs) ≡ packed fs / 2 ^ begins i fs
+    = ap (λ (n : ℕ). packed (f ∷ fs) / n) (pow-add 2 (f .width) (begins i fs))
+    ∙ sym (div-div-eq-div-mul (packed (f ∷ fs)) (2 ^ f .width) (2 ^ begins i fs))
+    ∙ ap (λ (n : ℕ). n / 2 ^ begins i fs) (behind f fs (z .0)) in
+    ap (λ (n : ℕ). n % 2 ^ (fieldAt i fs .width)) e ∙ field-back i fs (z .1) (le-of-suc-le-suc h)
+
+one-fits : (b : Bool) → flag b < 2 ^ 1
+one-fits true = omega arith
+one-fits false = omega arith
+
+fits-append : (xs ys : List Field) → Fits xs → Fits ys → Fits (xs ++ ys)
+fits-append [] ys p q = q
+fits-append (x ∷ xs) ys p q = (p .0, fits-append xs ys (p .1) q)
+
+line-fits : (l : Line) → Fits (lineFields l)
+line-fits l = (one-fits (l .inframe), (one-fits (l .inmulti), (one-fits (l .lof), (one-fits (l .lom), tt))))
+
+section-fits : (ssf : Bool) (d : SectionStands) → Fits (sectionFields ssf d)
+section-fits ssf d = (one-fits ssf, (one-fits (d .tim), (one-fits (d .bdi), (one-fits (d .iae), (one-fits (d .biae), (one-fits (d .deg), tt))))))
+
+path-fits : (ssf : Bool) (d : PathStands) → Fits (pathFields ssf d)
+path-fits ssf d = (one-fits ssf, (one-fits (isAis (d .signal)), (one-fits (isOci (d .signal)), (one-fits (isLck (d .signal)), (one-fits (d .tim), (one-fits (d .bdi), (one-fits (d .deg), tt)))))))
+
+section-acts-fit : (a : SectionActions) → a .bei < 16 → Fits (sectionActed a)
+section-acts-fit a h = (one-fits (a .tsf), (one-fits (a .tsd), (one-fits (a .bdi), (one-fits (a .biae), (h, tt)))))
+
+path-acts-fit : (a : PathActions) → a .bei < 16 → Fits (pathActed a)
+path-acts-fit a h = (one-fits (a .tsf), (one-fits (a .tsd), (one-fits (a .bdi), (h, tt))))
+
+line-causes-fit : (c : LineCauses) → Fits (lineCaused c)
+line-causes-fit c = (one-fits (c .lof), (one-fits (c .lom), tt))
+
+section-causes-fit : (c : SectionCauses) → Fits (sectionCaused c)
+section-causes-fit c = (one-fits (c .tim), (one-fits (c .deg), (one-fits (c .bdi), (one-fits (c .ssf), tt))))
+
+path-causes-fit : (c : PathCauses) → Fits (pathCaused c)
+path-causes-fit c = (one-fits (c .oci), (one-fits (c .lck), (one-fits (c .tim), (one-fits (c .deg), (one-fits (c .bdi), (one-fits (c .ssf), tt))))))
+
+-- a report fits whose head and counts fit
+pub report-fits : (r : Report) → r .head < 16 → r .section .bei < 16 → r .path .bei < 16 → Fits (reportFields r)
+report-fits r h s p =
+    let zero-fits : 0 < 256 = omega arith in
+    let c3 : List Field = pathCaused (r .causes .path) in
+    let c2 : List Field = sectionCaused (r .causes .section) ++ c3 in
+    let c1 : List Field = lineCaused (r .causes .line) ++ c2 in
+    let a2 : List Field = pathActed (r .path) ++ c1 in
+    let a1 : List Field = sectionActed (r .section) ++ a2 in
+    let d2 : List Field = pathFields (r .path .ssf) (r .standing .path) ++ a1 in
+    let d1 : List Field = sectionFields (r .section .ssf) (r .standing .section) ++ d2 in
+    let f2 = fits-append (sectionCaused (r .causes .section)) c3 (section-causes-fit (r .causes .section)) (path-causes-fit (r .causes .path)) in
+    let f1 = fits-append (lineCaused (r .causes .line)) c2 (line-causes-fit (r .causes .line)) f2 in
+    let g2 = fits-append (pathActed (r .path)) c1 (path-acts-fit (r .path) p) f1 in
+    let g1 = fits-append (sectionActed (r .section)) a2 (section-acts-fit (r .section) s) g2 in
+    let h2 = fits-append (pathFields (r .path .ssf) (r .standing .path)) a1 (path-fits (r .path .ssf) (r .standing .path)) g1 in
+    let h1 = fits-append (sectionFields (r .section .ssf) (r .standing .section)) d2 (section-fits (r .section .ssf) (r .standing .section)) h2 in
+    (zero-fits, (h, fits-append (lineFields (r .standing .line)) d1 (line-fits (r .standing .line)) h1))
+
+-- The report of an accepted frame: its head is at most 9 and its counts, by refusal 3, at most 8; so each of its forty fields is read
+-- back from its place.
+pub report-back : (d : Standing) (sm pm i : ℕ) → sm ≤ 8 → pm ≤ 8 → i < 40
+    → bitsOf (reportWord (reportOf d sm pm)) (begins i (reportFields (reportOf d sm pm))) (fieldAt i (reportFields (reportOf d sm pm)) .width)
+    ≡ fieldAt i (reportFields (reportOf d sm pm)) .value
+unfolding reportWord reportOf
+report-back d sm pm i hs hp h =
+    let u : headOf d < 10 = one-cause d .head in
+    let fits : Fits (reportFields (reportOf d sm pm)) = report-fits (reportOf d sm pm) (omega arith) (omega arith) (omega arith) in
+    field-back i (reportFields (reportOf d sm pm)) fits h

@@ -1,0 +1,3 @@
+pub mod Fields
+pub mod Refuted
+pub mod Unique

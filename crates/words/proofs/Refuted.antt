@@ -1,0 +1,55 @@
+-- Wrong answers that the contracts shut out, each for one input. Assumes nothing.
+use mathlib.Core.Path.{_≡_, ap, sym, _∙_}
+use mathlib.Core.Bool.{true, true≢false}
+use mathlib.Core.List.{List, _∷_}
+use Prim.Native.Nat.{ℕ}
+use native.Mathlib.Omega.{arith}
+use contract.Lifetimes.{Lfts}
+use borrow.Fn.Kinds.{Dens, endedOf}
+use denote.Triple.Clauses.{AtExit}
+use denote.Ref.{now}
+use lib.ListN.{getD, replicate}
+use Rattle.answer.specs.Over.{over}
+use Rattle.codec.specs.Over.{laid}
+use Rattle.words.specs.Words.{flat, wordsOf, wordsIn}
+use Rattle.words.specs.Ranges.{inside}
+use Rattle.words.proofs.words_in.Kinds as words-in-kinds
+use Rattle.words.proofs.words_in.Reads as words-in-reads
+use Rattle.words.proofs.lay_words.Kinds as lay-words-kinds
+use Rattle.words.proofs.lay_words.Reads as lay-words-reads
+use Rattle.words.proofs.record_of.Kinds as record-of-kinds
+use Rattle.words.proofs.record_of.Reads as record-of-reads
+use Rattle.words.proofs.in_range.Kinds as in-range-kinds
+use Rattle.words.proofs.in_range.Reads as in-range-reads
+
+-- words_in: the second byte of a word counts 256, and not 65,536
+pub bytes-swapped : (κs : Lfts 1) (a : Dens κs words-in-kinds.ps) (x : List ℕ) (s : AtExit (endedOf 1 words-in-kinds.ps words-in-kinds.r) κs)
+    → now (a .0) ≡ 0 ∷ 1 ∷ replicate 46 0 → a .1 .0 ≡ 0 → getD x 0 0 ≡ 65536 → words-in-reads.Post κs a x s → ⊥
+unfolding wordsIn wordsOf
+bytes-swapped κs a x s b at w e =
+    let h : x ≡ wordsIn 12 0 (0 ∷ 1 ∷ replicate 46 0) = rw (b, at) at e in
+    let z : _≡_ {A = ℕ} 65536 256 = sym w ∙ ap (λ (l : List ℕ). getD l 0 0) h in
+    omega arith
+
+-- lay_words: where there is no room for all of them nothing is laid
+pub words-in-part : (κs : Lfts 1) (a : Dens κs lay-words-kinds.ps) (s : AtExit (endedOf 1 lay-words-kinds.ps lay-words-kinds.r) κs)
+    → now (a .0) ≡ replicate 47 0 → a .1 .0 ≡ 0 → a .1 .1 .0 ≡ replicate 12 7 → getD (now (s .0)) 0 0 ≡ 7 → lay-words-reads.Post κs a tt s → ⊥
+unfolding laid over flat
+words-in-part κs a s b at t end e =
+    let h : now (s .0) ≡ laid (replicate 47 0) 0 (flat (replicate 12 7)) = rw (b, at, t) at e in
+    let z : _≡_ {A = ℕ} 7 0 = sym end ∙ ap (λ (l : List ℕ). getD l 0 0) h in
+    omega arith
+
+-- record_of: the first word comes first
+pub words-reversed : (κs : Lfts 0) (x : List ℕ) (s : AtExit (endedOf 0 record-of-kinds.ps record-of-kinds.r) κs)
+    → getD x 0 0 ≡ 0 → record-of-reads.Post κs (1 ∷ replicate 19 0, tt) x s → ⊥
+unfolding flat
+words-reversed κs x s w e =
+    let z : _≡_ {A = ℕ} 0 1 = sym w ∙ ap (λ (l : List ℕ). getD l 0 0) e in
+    omega arith
+
+-- in_range: every number is tested, and not the last alone
+pub last-alone : (κs : Lfts 0) (s : AtExit (endedOf 0 in-range-kinds.ps in-range-kinds.r) κs)
+    → in-range-reads.Post κs (replicate 12 0, (replicate 12 0, (1 ∷ replicate 11 0, tt))) true s → ⊥
+unfolding inside
+last-alone κs s e = true≢false e

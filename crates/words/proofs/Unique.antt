@@ -1,0 +1,26 @@
+-- No second answer, and no second content of lent memory, meets the contract of a public function. Assumes nothing.
+use mathlib.Core.Path.{sym, _∙_}
+use mathlib.Core.List.{List}
+use Prim.Native.Nat.{ℕ}
+use denote.Ref.{now}
+use Rattle.answer.specs.Answer.{OneAnswer, OneEnd}
+use Rattle.words.proofs.words_in.Kinds as words-in-kinds
+use Rattle.words.proofs.words_in.Reads as words-in-reads
+use Rattle.words.proofs.record_of.Kinds as record-of-kinds
+use Rattle.words.proofs.record_of.Reads as record-of-reads
+use Rattle.words.proofs.in_range.Kinds as in-range-kinds
+use Rattle.words.proofs.in_range.Reads as in-range-reads
+use Rattle.words.proofs.lay_words.Kinds as lay-words-kinds
+use Rattle.words.proofs.lay_words.Reads as lay-words-reads
+
+pub words-in-one : OneAnswer 1 words-in-kinds.ps words-in-kinds.r words-in-reads.Post
+words-in-one κs a x y s t p q = p ∙ sym q
+
+pub record-of-one : OneAnswer 0 record-of-kinds.ps record-of-kinds.r record-of-reads.Post
+record-of-one κs a x y s t p q = p ∙ sym q
+
+pub in-range-one : OneAnswer 0 in-range-kinds.ps in-range-kinds.r in-range-reads.Post
+in-range-one κs a x y s t p q = p ∙ sym q
+
+pub lay-words-end : OneEnd 1 lay-words-kinds.ps lay-words-kinds.r (List ℕ) (λ κs s. now (s .0)) lay-words-reads.Post
+lay-words-end κs a x y s t p q = p ∙ sym q

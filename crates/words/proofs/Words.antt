@@ -1,0 +1,89 @@
+-- Laws of words: their bytes, and that they are read back. Assumes nothing.
+use mathlib.Core.Path.{_≡_, refl, sym, ap, _∙_}
+use mathlib.Core.List.{List, [], _∷_, _++_}
+use Prim.Native.Nat.{ℕ, zero, suc, _+_, _*_, _/_, _%_, _≤_, _<_}
+use native.Mathlib.Nat.{not-suc-le-zero, le-of-suc-le-suc, div-div-eq-div-mul, mod-eq-of-lt}
+use native.Mathlib.Numerals.{add-one}
+use native.Mathlib.Omega.{arith}
+use lib.ListN.{length, getD, take, drop, replicate, set}
+use lib.Seq.{take-suc, getD-drop, length-take-le}
+use borrow.Author.Tests.{le-leb, lt-leb}
+use Rattle.words.specs.Words.{le4, flat, wordAt, wordsOf, wordsIn}
+use Rattle.answer.specs.Over.{over}
+use Rattle.answer.proofs.Overs.{set-over, over-length, over-over}
+
+pub flat-append : (x y : List ℕ) → flat (x ++ y) ≡ flat x ++ flat y
+unfolding flat
+flat-append [] y = refl
+flat-append (w ∷ x) y = ap (λ (t : List ℕ). le4 w ++ t) (flat-append x y)
+
+pub flat-more : (w : List ℕ) (i : ℕ) → i < length w → flat (take (i + 1) w) ≡ flat (take i w) ++ le4 (getD w i 0)
+unfolding flat
+flat-more w i h = rw (add-one, take-suc w i 0, flat-append)
+
+pub length-flat : (w : List ℕ) → length (flat w) ≡ length w * 4
+unfolding flat
+length-flat [] = refl
+length-flat (x ∷ w) = omega (arith, length-flat w)
+
+pub length-words : (n : ℕ) (l : List ℕ) → length (wordsOf n l) ≡ n
+unfolding wordsOf
+length-words zero l = refl
+length-words (suc n) l = ap suc (length-words n (drop 4 l))
+
+-- a word after a drop
+byte-at : (l : List ℕ) (n k j : ℕ) → n + k ≡ j → getD (drop n l) k 0 ≡ getD l j 0
+byte-at l n k j e = getD-drop n l k 0 ∙ ap (λ (m : ℕ). getD l m 0) e
+
+pub word-at-drop : (l : List ℕ) (n k : ℕ) → wordAt (drop n l) k ≡ wordAt l (n + k)
+word-at-drop l n k =
+    omega (
+      arith,
+      byte-at l n k (n + k) refl,
+      byte-at l n (k + 1) (n + k + 1) (omega arith),
+      byte-at l n (k + 2) (n + k + 2) (omega arith),
+      byte-at l n (k + 3) (n + k + 3) (omega arith),
+    )
+
+pub word-of : (n : ℕ) (l : List ℕ) (i : ℕ) → i < n → getD (wordsOf n l) i 0 ≡ wordAt l (i * 4)
+unfolding wordsOf
+word-of zero l i h = absurd (not-suc-le-zero h)
+word-of (suc n) l zero h = refl
+word-of (suc n) l (suc i) h = word-of n (drop 4 l) i (le-of-suc-le-suc h) ∙ word-at-drop l 4 (i * 4) ∙ ap (wordAt l) (omega arith)
+
+-- one word more of words that are written over
+pub over-word : (d b' b w : List ℕ) (at i : ℕ) → b' ≡ over b (at + i * 4) (le4 (getD w i 0)) → b ≡ over d at (flat (take i w))
+    → i < length w → at ≤ length d → b' ≡ over d at (flat (take (i + 1) w))
+over-word d b' b w at i e h k r =
+    let n : at + i * 4 ≡ at + length (flat (take i w)) = omega (arith, length-flat (take i w), length-take-le i w (omega arith)) in
+    e ∙ rw h (over-over d at (at + i * 4) (flat (take i w)) (le4 (getD w i 0)) r n ∙ ap (over d at) (sym (flat-more w i k)))
+
+-- within the bytes
+pub words-room : (n at : ℕ) (l : List ℕ) → at + n * 4 ≤ length l → wordsIn n at l ≡ wordsOf n (drop at l)
+unfolding wordsIn
+words-room n at l h = rw (le-leb (at + n * 4) (length l) h)
+
+-- a number below 2 ^ 32 is read back from its four bytes
+pub word-back : (x : ℕ) → x < 4294967296 → x % 256 + 256 * (x / 256 % 256) + 65536 * (x / 65536 % 256) + 16777216 * (x / 16777216 % 256) ≡ x
+word-back x h =
+    let c : x / 16777216 < 256 = omega arith in
+    let m : x / 16777216 % 256 ≡ x / 16777216 = mod-eq-of-lt c in
+    omega (arith, m, div-div-eq-div-mul x 256 256, div-div-eq-div-mul x 65536 256)
+
+-- and beyond them
+pub words-beyond : (n at : ℕ) (l : List ℕ) → length l < at + n * 4 → replicate n 0 ≡ wordsIn n at l
+unfolding wordsIn
+words-beyond n at l h = rw (lt-leb (at + n * 4) (length l) h)
+
+-- four bytes, one by one
+pub put4 : (d : List ℕ) (n a b c e : ℕ) → n + 4 ≤ length d
+    → set (set (set (set d n a) (n + 1) b) (n + 2) c) (n + 3) e ≡ over d n (a ∷ b ∷ c ∷ e ∷ [])
+put4 d n a b c e h =
+    let x1 = set-over d n a (omega arith) in
+    let l1 = over-length d n (a ∷ []) (omega arith) in
+    let x2 = set-over (over d n (a ∷ [])) (n + 1) b (omega arith) ∙ over-over d n (n + 1) (a ∷ []) (b ∷ []) (omega arith) refl in
+    let l2 = over-length d n (a ∷ b ∷ []) (omega arith) in
+    let x3 = set-over (over d n (a ∷ b ∷ [])) (n + 2) c (omega arith) ∙ over-over d n (n + 2) (a ∷ b ∷ []) (c ∷ []) (omega arith) refl in
+    let l3 = over-length d n (a ∷ b ∷ c ∷ []) (omega arith) in
+    let x4 = set-over (over d n (a ∷ b ∷ c ∷ [])) (n + 3) e (omega arith) ∙ over-over d n (n + 3) (a ∷ b ∷ c ∷ []) (e ∷ []) (omega arith) refl in
+    rw (x1, x2, x3) x4

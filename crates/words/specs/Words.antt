@@ -1,0 +1,28 @@
+-- Numbers as little-endian words of four bytes: one after the other in a list of bytes, and read back. Assumes nothing.
+use mathlib.Core.Bool.{cond}
+use mathlib.Core.List.{List, [], _∷_, _++_}
+use Prim.Native.Nat.{ℕ, zero, suc, _+_, _*_, _/_, _%_}
+use lib.Dec.{leb}
+use lib.ListN.{length, getD, drop, replicate}
+
+-- the four bytes of x, the lowest first
+abbrev pub le4 : ℕ → List ℕ
+le4 x = x % 256 ∷ x / 256 % 256 ∷ x / 65536 % 256 ∷ x / 16777216 % 256 ∷ []
+
+-- the bytes of each number in turn
+unfoldable pub flat : List ℕ → List ℕ
+flat [] = []
+flat (w ∷ ws) = le4 w ++ flat ws
+
+-- the word whose first byte stands at `at`
+abbrev pub wordAt : List ℕ → ℕ → ℕ
+wordAt l at = getD l at 0 + 256 * getD l (at + 1) 0 + 65536 * getD l (at + 2) 0 + 16777216 * getD l (at + 3) 0
+
+-- the first n words
+unfoldable pub wordsOf : ℕ → List ℕ → List ℕ
+wordsOf zero l = []
+wordsOf (suc n) l = wordAt l 0 ∷ wordsOf n (drop 4 l)
+
+-- n words from a place on, zeros where they do not lie within the bytes
+unfoldable pub wordsIn : ℕ → ℕ → List ℕ → List ℕ
+wordsIn n at l = cond (leb (at + n * 4) (length l)) (wordsOf n (drop at l)) (replicate n 0)

@@ -1,0 +1,54 @@
+#!/usr/bin/env bash
+# Holds README.md and docs/ to the crates: README's table names each crate; each definition that CLAUSES.md names stands where it says; PROMISES.md
+# names each must-fail edit and each refutation under its crate, and none that is not there. Status 0 where all is so.
+set -euo pipefail
+cd "$(dirname "$0")/.."
+wrong=0
+says() { echo "docs: $*"; wrong=1; }
+# tokens TEXT: what stands between backticks, a line each
+tokens() { grep -o '`[^`]*`' <<<"$1" | tr -d '`' || true; }
+
+while IFS=: read -r crate _; do
+    grep -q "^| .*\`$crate\`.* |" README.md || says "README.md does not name the crate $crate"
+done <crates.txt
+
+while IFS= read -r place; do
+    file=${place%% *}
+    path=crates/${file%/*}/specs/${file#*/}.antt
+    [ -f "$path" ] || { says "CLAUSES.md: there is no $path"; continue; }
+    for name in $(tokens "$place"); do
+        grep -Eq "(pub $name :|pub record $name\b|pub data $name\b|  pub $name :)" "$path" || says "CLAUSES.md: $path does not have $name"
+    done
+done < <(grep '^|' docs/CLAUSES.md | grep -oE '[a-z]+/[A-Z][A-Za-z0-9]+( `[A-Za-z0-9]+`(, `[A-Za-z0-9]+`)*)?')
+
+# the rows of functions: | `crate::name` .. | what | edits | refutations |; those of theorems end in edits as crate/label
+named=$(mktemp)
+trap 'rm -f "$named"' EXIT
+while IFS='|' read -r _ function _ edits refuted _; do
+    crate=$(tokens "$function" | head -n 1)
+    crate=${crate%%::*}
+    for label in $(tokens "$edits"); do echo "$crate/$label"; done >>"$named"
+    for law in $(tokens "$refuted"); do
+        grep -q "pub $law :" "crates/$crate/proofs/Refuted.antt" || says "PROMISES.md: crates/$crate/proofs/Refuted.antt does not have $law"
+        echo "$crate/proofs/$law" >>"$named"
+    done
+done < <(grep -E '^\| `[a-z]+::' docs/PROMISES.md)
+grep -oE '`[a-z]+/[a-z0-9_]+`' docs/PROMISES.md | tr -d '`' >>"$named" || true
+while IFS= read -r edit; do
+    case $edit in
+    */proofs/*) ;;
+    *) [ -f "crates/${edit%/*}/must-fail/${edit#*/}.edit" ] || says "PROMISES.md: there is no edit $edit" ;;
+    esac
+done <"$named"
+for edit in crates/*/must-fail/*.edit; do
+    crate=$(basename "$(dirname "$(dirname "$edit")")")
+    grep -qx "$crate/$(basename "$edit" .edit)" "$named" || says "PROMISES.md does not name the edit $crate/$(basename "$edit" .edit)"
+done
+for laws in crates/*/proofs/Refuted.antt; do
+    crate=$(basename "$(dirname "$(dirname "$laws")")")
+    while read -r law; do
+        grep -qx "$crate/proofs/$law" "$named" || says "PROMISES.md does not name the refutation $law of $crate"
+    done < <(sed -nE 's/^ *pub ([^ ]+) :.*/\1/p' "$laws")
+done
+[ "$wrong" = 0 ] && echo "docs: every crate, definition, edit and refutation is named where it stands"
+exit "$wrong"
