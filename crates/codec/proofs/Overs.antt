@@ -1,14 +1,15 @@
 -- Laws of writing over: a byte, one writing after another, all of the bytes. Assumes nothing.
-use Prim.Native.Nat.{ℕ, _+_, _≤_, _<_}
+use Prim.Native.Nat.{ℕ, _+_, _-_, _≤_, _<_}
 use mathlib.Core.Path.{_≡_, refl, _∙_, ap, sym}
-use mathlib.Core.List.{List, append-nil}
+use mathlib.Core.List.{List, [], _∷_, append-nil}
 use native.Mathlib.Omega.{arith}
-use lib.Dec.{ltb}
+use lib.Dec.{leb, ltb}
 use lib.ListN.{length, take, drop, replicate, drop-of-length-le}
 use lib.Seq.{take-all}
 use borrow.Author.Tests.{le-leb, lt-leb, ltb-true, ltb-false}
 use Rattle.answer.proofs.Cond.{by-cond}
 use Rattle.answer.specs.Over.{over}
+use Rattle.answer.proofs.Overs.{over-nil}
 use Rattle.codec.specs.Over.{bytesIn, laid, leastOf, poured}
 
 -- all of the bytes
@@ -22,6 +23,12 @@ over-all d v e =
 pub laid-room : (d : List ℕ) (at : ℕ) (v : List ℕ) → at + length v ≤ length d → laid d at v ≡ over d at v
 unfolding laid
 laid-room d at v h = rw (le-leb (at + length v) (length d) h)
+
+-- bytes that are no more than what is left from a place on
+pub laid-within : (d : List ℕ) (at : ℕ) (v : List ℕ) → length v ≤ length d - at → laid d at v ≡ over d at v
+unfolding laid
+laid-within d at [] h = by-cond (λ (l : List ℕ). l ≡ over d at []) (leb (at + 0) (length d)) (λ _. refl) (λ _. over-nil d at)
+laid-within d at (x ∷ v) h = laid-room d at (x ∷ v) (omega arith)
 
 -- what is copied byte by byte up to the lesser length is what there is room for
 pub least-low : (a b : ℕ) → leastOf a b ≤ b

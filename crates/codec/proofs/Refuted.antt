@@ -14,6 +14,8 @@ use Rattle.codec.proofs.trace_in.Kinds as trace-in-kinds
 use Rattle.codec.proofs.trace_in.Reads as trace-in-reads
 use Rattle.codec.proofs.names_in.Kinds as names-in-kinds
 use Rattle.codec.proofs.names_in.Reads as names-in-reads
+use Rattle.codec.proofs.lay_bytes.Kinds as lay-bytes-kinds
+use Rattle.codec.proofs.lay_bytes.Reads as lay-bytes-reads
 use Rattle.codec.proofs.lay_trace.Kinds as lay-trace-kinds
 use Rattle.codec.proofs.lay_trace.Reads as lay-trace-reads
 use Rattle.codec.proofs.lay_names.Kinds as lay-names-kinds
@@ -37,6 +39,15 @@ unfolding bytesIn
 read-from-start κs a s b at e =
     let h : 9 ∷ replicate 31 0 ≡ bytesIn 32 1 (9 ∷ replicate 32 0) = rw (b, at) at e in
     let z : _≡_ {A = ℕ} 9 0 = ap (λ (l : List ℕ). getD l 0 0) h in
+    omega arith
+
+-- lay_bytes: where there is no room for all of them nothing is laid, and not the first of them
+pub bytes-in-part : (κs : Lfts 2) (a : Dens κs lay-bytes-kinds.ps) (s : AtExit (endedOf 2 lay-bytes-kinds.ps lay-bytes-kinds.r) κs)
+    → now (a .0) ≡ 0 ∷ 0 ∷ [] → a .1 .0 ≡ 1 → now (a .1 .1 .0) ≡ 7 ∷ 7 ∷ [] → now (s .0) ≡ 0 ∷ 7 ∷ [] → lay-bytes-reads.Post κs a tt s → ⊥
+unfolding laid over
+bytes-in-part κs a s b at v end e =
+    let h : 0 ∷ 7 ∷ [] ≡ laid (0 ∷ 0 ∷ []) 1 (7 ∷ 7 ∷ []) = sym end ∙ rw (b, at, v) at e in
+    let z : _≡_ {A = ℕ} 7 0 = ap (λ (l : List ℕ). getD l 1 0) h in
     omega arith
 
 -- lay_trace: the bytes behind what is laid stay

@@ -8,6 +8,8 @@ use Rattle.codec.proofs.trace_in.Kinds as trace-in-kinds
 use Rattle.codec.proofs.trace_in.Reads as trace-in-reads
 use Rattle.codec.proofs.names_in.Kinds as names-in-kinds
 use Rattle.codec.proofs.names_in.Reads as names-in-reads
+use Rattle.codec.proofs.lay_bytes.Kinds as lay-bytes-kinds
+use Rattle.codec.proofs.lay_bytes.Reads as lay-bytes-reads
 use Rattle.codec.proofs.lay_trace.Kinds as lay-trace-kinds
 use Rattle.codec.proofs.lay_trace.Reads as lay-trace-reads
 use Rattle.codec.proofs.lay_names.Kinds as lay-names-kinds
@@ -20,6 +22,9 @@ trace-in-one κs a x y s t p q = p ∙ sym q
 
 pub names-in-one : OneAnswer 1 names-in-kinds.ps names-in-kinds.r names-in-reads.Post
 names-in-one κs a x y s t p q = p ∙ sym q
+
+pub lay-bytes-end : OneEnd 2 lay-bytes-kinds.ps lay-bytes-kinds.r (List ℕ) (λ κs s. now (s .0)) lay-bytes-reads.Post
+lay-bytes-end κs a x y s t p q = p ∙ sym q
 
 pub lay-trace-end : OneEnd 1 lay-trace-kinds.ps lay-trace-kinds.r (List ℕ) (λ κs s. now (s .0)) lay-trace-reads.Post
 lay-trace-end κs a x y s t p q = p ∙ sym q

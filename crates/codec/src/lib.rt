@@ -51,24 +51,29 @@ pub fn names_in(b: &[u8], at: u32) -> [u8; 32]
     t
 }
 
+// The bytes of src laid over b from `at`.
+pub fn lay_bytes(b: &mut [u8], at: usize, src: &[u8])
+    ensures { λ _. ⌜ now (b .exit) ≡ laid (now (b .entry)) at (now (src .entry)) ⌝ }
+{
+    if src.len() <= b.len() {
+        if at <= b.len() - src.len() {
+            put_bytes(b, at, src);
+        }
+    }
+}
+
 // 64 bytes laid over b from `at`.
 pub fn lay_trace(b: &mut [u8], at: u32, trace: [u8; 64])
     ensures { λ _. ⌜ now (b .exit) ≡ laid (now (b .entry)) at trace ⌝ }
 {
-    let from = at as usize;
-    if from + 64 <= b.len() {
-        put_bytes(b, from, &trace);
-    }
+    lay_bytes(b, at as usize, &trace);
 }
 
 // 32 bytes laid over b from `at`.
 pub fn lay_names(b: &mut [u8], at: u32, names: [u8; 32])
     ensures { λ _. ⌜ now (b .exit) ≡ laid (now (b .entry)) at names ⌝ }
 {
-    let from = at as usize;
-    if from + 32 <= b.len() {
-        put_bytes(b, from, &names);
-    }
+    lay_bytes(b, at as usize, &names);
 }
 
 fn least(a: usize, b: usize) -> usize

@@ -37,12 +37,8 @@ pub fn put_text(src: &[u8], out: &mut [u8], at: usize) -> usize
     if free < src.len() {
         return at;
     }
-    let mut i = 0;
-    while i < src.len() {
-        out[at + i] = src[i];
-        i += 1;
-    }
-    at + i
+    codec::lay_bytes(out, at, src);
+    at + src.len()
 }
 
 // Puts the digits of a number, as `put_text` does, where there is room for 20.

@@ -5,7 +5,7 @@ use libc::STDOUT_FILENO;
 use trace::State;
 use trace::Stop;
 ghost use mathlib.Core.Path.{_≡_};
-ghost use Prim.Native.Nat.{_+_, _*_, _≤_, _<_};
+ghost use Prim.Native.Nat.{_+_, _≤_, _<_};
 ghost use lib.ListN.{length, take, drop};
 ghost use Rattle.stream.specs.Stream.{goesOn};
 ghost use Rattle.answer.specs.Over.{over};
