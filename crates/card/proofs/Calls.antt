@@ -20,7 +20,8 @@ use Rattle.supervisor.specs.declared.Provisioned.{Provisioned}
 use Rattle.supervisor.specs.declared.Stepped.{Stepped}
 use Rattle.supervisor.specs.declared.Marked.{Marked}
 use Rattle.supervisor.specs.declared.Traced.{Traced}
-use Rattle.image.specs.Image.{numbersIn, ranged, sound, loadOf, bytesOf}
+use Rattle.ranges.specs.Sound.{numbersIn, ranged, sound}
+use Rattle.image.specs.Image.{loadOf, bytesOf}
 use Rattle.word.specs.Report.{reportWord}
 use Rattle.card.specs.Calls.{Provision, freshRefusal, freshBy, freshSup, FreshCall, callRefusal, callAnswer, callSup, StepCall, markRefusal, markSup, figuresAt, markRecord, MarkCall, traceChecks, traceRefused, traceOut, TraceCall}
 

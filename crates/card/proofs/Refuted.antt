@@ -8,7 +8,7 @@ use borrow.Fn.Kinds.{Dens, endedOf}
 use denote.Triple.Clauses.{AtExit}
 use denote.Ref.{now}
 use lib.ListN.{getD}
-use Rattle.image.specs.Image.{sound}
+use Rattle.ranges.specs.Sound.{sound}
 use Rattle.card.specs.Calls.{freshRefusal, callRefusal, callAnswer, markRefusal, markRecord, traceRefused}
 use Rattle.card.proofs.otn_fresh.Kinds as otn-fresh-kinds
 use Rattle.card.proofs.otn_fresh.Reads as otn-fresh-reads

@@ -15,7 +15,8 @@ use Rattle.settings.specs.Settings.{settingsChecks, optionsOf}
 use Rattle.supervisor.specs.Supervisor.{freshOf, stepChecks, standsAfter, frameOf, nextSecond, layerAt}
 use Rattle.settings.specs.declared.Request.{Request}
 use Rattle.supervisor.specs.declared.Supervisor.{Supervisor}
-use Rattle.image.specs.Image.{sound, loadOf, bytesOf}
+use Rattle.ranges.specs.Sound.{sound}
+use Rattle.image.specs.Image.{loadOf, bytesOf}
 use Rattle.word.specs.Report.{reportWord}
 
 -- by a refusal's number: what is made where it is 0, what is kept where it is not

@@ -76,7 +76,7 @@ pub extern "C" fn otn_fresh(
 pub extern "C" fn otn_step(sup: &mut [u8], overhead: &[u8], flags: u8, sm: u8, pm: u8) -> u64
     ensures { λ r. ⌜ StepCall (now (sup .entry)) (now (overhead .entry)) flags sm pm r (now (sup .exit)) ⌝ }
 {
-    if image::is_sound(sup) {
+    if ranges::is_sound(sup) {
         let s = load(sup);
         let o = supervisor::step(s, overhead, flags, sm, pm);
         if o.refusal == 0 {
@@ -95,7 +95,7 @@ pub extern "C" fn otn_step(sup: &mut [u8], overhead: &[u8], flags: u8, sm: u8, p
 pub extern "C" fn otn_mark(sup: &mut [u8], out: &mut [u8]) -> u64
     ensures { λ r. ⌜ MarkCall (now (sup .entry)) (now (out .entry)) r (now (sup .exit)) (now (out .exit)) ⌝ }
 {
-    if image::is_sound(sup) {
+    if ranges::is_sound(sup) {
         let s = load(sup);
         let m = supervisor::mark(s);
         if m.refusal == 0 {
@@ -116,7 +116,7 @@ pub extern "C" fn otn_mark(sup: &mut [u8], out: &mut [u8]) -> u64
 pub extern "C" fn otn_trace(sup: &[u8], layer: u8, out: &mut [u8]) -> u64
     ensures { λ r. ⌜ TraceCall (now (sup .entry)) layer (now (out .entry)) r (now (out .exit)) ⌝ }
 {
-    if image::is_sound(sup) {
+    if ranges::is_sound(sup) {
         let s = load(sup);
         let t = supervisor::trace_of(s, layer);
         let twelve = checked(12, out.len() == 64, t.refusal);

@@ -15,7 +15,7 @@ use Rattle.codec.proofs.Pieces.{length-joined, lays-over}
 use Rattle.layer.specs.declared.Layer.{Layer}
 use Rattle.settings.specs.declared.Settings.{Settings}
 use Rattle.supervisor.specs.declared.Supervisor.{Supervisor}
-use Rattle.image.specs.declared.Numbers.{Numbers}
+use Rattle.ranges.specs.declared.Numbers.{Numbers}
 use Rattle.image.specs.Image.{numbersOf, loadOf, numberPieces, tracePieces, namePieces, piecesOf, bytesOf, Arrays, Stored}
 
 -- twelve words are 48 bytes

@@ -25,10 +25,11 @@ use Rattle.frame.specs.declared.PathState.{PathState}
 use Rattle.supervisor.specs.declared.Supervisor.{Supervisor}
 use Rattle.history.specs.Ranges.{AlignmentIn, SectionIn, PathIn, AllAtMost, SecondIn, Ranged}
 use Rattle.settings.specs.Ranges.{SettingsIn}
-use Rattle.image.specs.declared.Numbers.{Numbers}
+use Rattle.ranges.specs.declared.Numbers.{Numbers}
 use Rattle.answer.specs.Bits.{flag}
 use Rattle.answer.proofs.Bits.{flag-most}
-use Rattle.image.specs.Image.{on, settingsWords, alignWords, sectionWords, pathWords, secondWords, ten, headsWords, numbersOf, settingsRanged, alignRanged, sectionRanged, pathRanged, secondRanged, headsRanged, ranged, settingsOf, alignOf, layerOf, sectionOf, pathOf, secondOf, numbersIn, loadOf, sound, piecesOf, bytesOf, Traces, Names, Arrays}
+use Rattle.ranges.specs.Sound.{settingsRanged, alignRanged, sectionRanged, pathRanged, secondRanged, headsRanged, ranged, numbersIn, sound}
+use Rattle.image.specs.Image.{on, settingsWords, alignWords, sectionWords, pathWords, secondWords, ten, headsWords, numbersOf, settingsOf, alignOf, layerOf, sectionOf, pathOf, secondOf, loadOf, piecesOf, bytesOf, Traces, Names, Arrays}
 use Rattle.image.specs.Ranges.{SameRanges, RoundTrip}
 use Rattle.image.proofs.Bytes.{sized, length-bytes}
 

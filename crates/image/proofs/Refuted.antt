@@ -1,6 +1,5 @@
 -- Wrong answers that the contracts shut out, each for one input. Assumes nothing.
 use mathlib.Core.Path.{_≡_, refl, ap, sym, _∙_}
-use mathlib.Core.Bool.{true, true≢false}
 use mathlib.Core.List.{List, [], _∷_}
 use Prim.Native.Nat.{ℕ}
 use native.Mathlib.Omega.{arith}
@@ -14,19 +13,12 @@ use Rattle.codec.specs.Over.{laid}
 use Rattle.codec.specs.Pieces.{lays}
 use Rattle.supervisor.specs.declared.Supervisor.{Supervisor}
 use Rattle.supervisor.specs.Supervisor.{blankSupervisor}
-use Rattle.image.specs.Image.{sound, numbersIn, loadOf, piecesOf}
-use Rattle.image.proofs.is_sound.Kinds as is-sound-kinds
-use Rattle.image.proofs.is_sound.Reads as is-sound-reads
+use Rattle.ranges.specs.Sound.{numbersIn}
+use Rattle.image.specs.Image.{loadOf, piecesOf}
 use Rattle.image.proofs.supervisor_in.Kinds as supervisor-in-kinds
 use Rattle.image.proofs.supervisor_in.Reads as supervisor-in-reads
 use Rattle.image.proofs.lay.Kinds as lay-kinds
 use Rattle.image.proofs.lay.Reads as lay-reads
-
--- is_sound: no bytes are no supervisor
-pub sound-empty : (κs : Lfts 1) (a : Dens κs is-sound-kinds.ps) (s : AtExit (endedOf 1 is-sound-kinds.ps is-sound-kinds.r) κs)
-    → now (a .0) ≡ [] → is-sound-reads.Post κs a true s → ⊥
-unfolding sound
-sound-empty κs a s b e = true≢false (rw b at e)
 
 -- supervisor_in: beyond the bytes every number is 0
 pub one-beyond : (κs : Lfts 1) (a : Dens κs supervisor-in-kinds.ps) (x : Supervisor) (s : AtExit (endedOf 1 supervisor-in-kinds.ps supervisor-in-kinds.r) κs)

@@ -4,15 +4,10 @@ use mathlib.Core.List.{List}
 use Prim.Native.Nat.{ℕ}
 use denote.Ref.{now}
 use Rattle.answer.specs.Answer.{OneAnswer, OneEnd}
-use Rattle.image.proofs.is_sound.Kinds as is-sound-kinds
-use Rattle.image.proofs.is_sound.Reads as is-sound-reads
 use Rattle.image.proofs.lay.Kinds as lay-kinds
 use Rattle.image.proofs.lay.Reads as lay-reads
 use Rattle.image.proofs.supervisor_in.Kinds as supervisor-in-kinds
 use Rattle.image.proofs.supervisor_in.Reads as supervisor-in-reads
-
-pub is-sound-one : OneAnswer 1 is-sound-kinds.ps is-sound-kinds.r is-sound-reads.Post
-is-sound-one κs a x y s t p q = p ∙ sym q
 
 pub supervisor-in-one : OneAnswer 1 supervisor-in-kinds.ps supervisor-in-kinds.r supervisor-in-reads.Post
 supervisor-in-one κs a x y s t p q = p ∙ sym q

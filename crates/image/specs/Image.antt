@@ -1,14 +1,13 @@
 -- The supervisor as 736 bytes: its numbers as little-endian words in six segments of twelve, then its arrays. Assumes nothing.
 use mathlib.Core.Path.{_≡_}
-use mathlib.Core.Bool.{Bool, _&&_}
+use mathlib.Core.Bool.{Bool}
 use mathlib.Core.List.{List, [], _∷_, _++_}
 use Prim.Native.Nat.{ℕ, _%_}
 use Rattle.answer.specs.Bits.{flag}
 use lib.Dec.{eqb}
 use lib.ListN.{length, getD}
-use Rattle.words.specs.Words.{flat, wordsIn}
+use Rattle.words.specs.Words.{flat}
 use Rattle.codec.specs.Over.{bytesIn}
-use Rattle.words.specs.Ranges.{inside}
 use Rattle.codec.specs.Pieces.{Piece, piece, joined, lays}
 use Rattle.alignment.specs.declared.Alignment.{Alignment}
 use Rattle.layer.specs.declared.Layer.{Layer}
@@ -17,7 +16,8 @@ use Rattle.second.specs.declared.Second.{Second}
 use Rattle.frame.specs.declared.SectionState.{SectionState}
 use Rattle.frame.specs.declared.PathState.{PathState}
 use Rattle.supervisor.specs.declared.Supervisor.{Supervisor}
-use Rattle.image.specs.declared.Numbers.{Numbers}
+use Rattle.ranges.specs.declared.Numbers.{Numbers}
+use Rattle.ranges.specs.Sound.{numbersIn}
 
 -- 1 is true
 abbrev pub on : ℕ → Bool
@@ -74,38 +74,6 @@ numbersOf s = record {
   heads = headsWords (s .second);
 }
 
--- The ranges of refusal 17, segment by segment.
-
-abbrev pub settingsRanged : List ℕ → Bool
-settingsRanged w =
-    inside (1 ∷ 1 ∷ 2 ∷ 0 ∷ 0 ∷ 1 ∷ 2 ∷ 0 ∷ 0 ∷ 0 ∷ 0 ∷ 0 ∷ [])
-    (3 ∷ 329492 ∷ 10 ∷ 3 ∷ 1 ∷ 329492 ∷ 10 ∷ 3 ∷ 1 ∷ 4294967295 ∷ 0 ∷ 0 ∷ []) w
-
--- twelve zeros: the least of every other number
-abbrev pub noughts : List ℕ
-noughts = 0 ∷ 0 ∷ 0 ∷ 0 ∷ 0 ∷ 0 ∷ 0 ∷ 0 ∷ 0 ∷ 0 ∷ 0 ∷ 0 ∷ []
-
-abbrev pub alignRanged : List ℕ → Bool
-alignRanged w = inside noughts (1 ∷ 1 ∷ 4 ∷ 989 ∷ 989 ∷ 1 ∷ 255 ∷ 4 ∷ 1 ∷ 255 ∷ 989 ∷ 0 ∷ []) w
-
-abbrev pub sectionRanged : List ℕ → Bool
-sectionRanged w = inside noughts (1 ∷ 1 ∷ 3 ∷ 1 ∷ 4 ∷ 1 ∷ 9 ∷ 1 ∷ 4 ∷ 1 ∷ 2 ∷ 0 ∷ []) w
-
-abbrev pub pathRanged : List ℕ → Bool
-pathRanged w = inside noughts (1 ∷ 1 ∷ 3 ∷ 1 ∷ 4 ∷ 1 ∷ 9 ∷ 7 ∷ 3 ∷ 1 ∷ 7 ∷ 0 ∷ []) w
-
-abbrev pub secondRanged : List ℕ → Bool
-secondRanged w = inside noughts (400000 ∷ 400000 ∷ 400000 ∷ 1 ∷ 1 ∷ 400000 ∷ 400000 ∷ 1 ∷ 1 ∷ 1 ∷ 1 ∷ 0 ∷ []) w
-
-abbrev pub headsRanged : List ℕ → Bool
-headsRanged w =
-    inside noughts (400000 ∷ 400000 ∷ 400000 ∷ 400000 ∷ 400000 ∷ 400000 ∷ 400000 ∷ 400000 ∷ 400000 ∷ 400000 ∷ 0 ∷ 0 ∷ []) w
-
-unfoldable pub ranged : Numbers → Bool
-ranged n =
-    settingsRanged (n .settings) && alignRanged (n .align) && sectionRanged (n .section) && pathRanged (n .path)
-    && secondRanged (n .second) && headsRanged (n .heads)
-
 -- Each part back from its words and its arrays.
 
 abbrev pub settingsOf : List ℕ → List ℕ → List ℕ → Settings
@@ -160,16 +128,6 @@ secondOf w h = record {
 
 -- Where each stands in the bytes.
 
-unfoldable pub numbersIn : List ℕ → Numbers
-numbersIn l = record {
-  settings = wordsIn 12 0 l;
-  align = wordsIn 12 48 l;
-  section = wordsIn 12 96 l;
-  path = wordsIn 12 144 l;
-  second = wordsIn 12 192 l;
-  heads = wordsIn 12 240 l;
-}
-
 abbrev pub sectionIn : List ℕ → List ℕ → SectionState
 sectionIn l w = sectionOf w (layerOf w (bytesIn 64 288 l) (bytesIn 64 352 l) (bytesIn 64 416 l))
 
@@ -190,10 +148,6 @@ supervisorOf l n = record {
 -- the supervisor that stands in bytes
 unfoldable pub loadOf : List ℕ → Supervisor
 loadOf l = supervisorOf l (numbersIn l)
-
--- refusal 17: "handed-in supervisor has a wrong length or a number beyond its range"
-unfoldable pub sound : List ℕ → Bool
-sound l = eqb (length l) 736 && ranged (numbersIn l)
 
 -- The image.
 

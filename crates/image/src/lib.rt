@@ -9,6 +9,7 @@ use frame::Layers;
 use frame::PathState;
 use frame::SectionState;
 use layer::Layer;
+use ranges::Numbers;
 use second::Blocks;
 use second::Far;
 use second::Frames;
@@ -20,17 +21,7 @@ use supervisor::Supervisor;
 ghost use mathlib.Core.Path.{_≡_};
 ghost use Prim.Native.Nat.{_≤_};
 ghost use Rattle.codec.specs.Pieces.{lays};
-ghost use Rattle.image.specs.Image.{settingsWords, alignWords, sectionWords, pathWords, secondWords, headsWords, numbersOf, settingsOf, alignOf, layerOf, sectionOf, pathOf, secondOf, numbersIn, ranged, sectionIn, pathIn, settingsIn, supervisorOf, loadOf, sound, numberPieces, TracesLaid, NamesLaid, Stored};
-
-// The numbers, in segments of twelve words.
-pub struct Numbers {
-    pub settings: [u32; 12],
-    pub align: [u32; 12],
-    pub section: [u32; 12],
-    pub path: [u32; 12],
-    pub second: [u32; 12],
-    pub heads: [u32; 12],
-}
+ghost use Rattle.image.specs.Image.{settingsWords, alignWords, sectionWords, pathWords, secondWords, headsWords, numbersOf, settingsOf, alignOf, layerOf, sectionOf, pathOf, secondOf, sectionIn, pathIn, settingsIn, supervisorOf, loadOf, numberPieces, TracesLaid, NamesLaid, Stored};
 
 // The numbers of the provisioning, and the seconds closed.
 fn settings_words(s: Settings, seconds: u32) -> [u32; 12]
@@ -299,74 +290,6 @@ fn numbers_of(s: Supervisor) -> Numbers
     }
 }
 
-// The numbers that stand in lent bytes.
-fn numbers_in(b: &[u8]) -> Numbers
-    ensures { λ r. ⌜ r ≡ numbersIn (now (b .entry)) ⌝ }
-{
-    let settings = words::words_in(b, 0);
-    let align = words::words_in(b, 48);
-    let section = words::words_in(b, 96);
-    let path = words::words_in(b, 144);
-    let second = words::words_in(b, 192);
-    let heads = words::words_in(b, 240);
-    Numbers {
-        settings: settings,
-        align: align,
-        section: section,
-        path: path,
-        second: second,
-        heads: heads,
-    }
-}
-
-// Whether each number lies in its range.
-fn is_ranged(n: Numbers) -> bool
-    ensures { λ r. ⌜ r ≡ ranged n ⌝ }
-{
-    let settings = n.settings;
-    let align = n.align;
-    let section = n.section;
-    let path = n.path;
-    let second = n.second;
-    let heads = n.heads;
-    let a = words::in_range(
-        [1, 1, 2, 0, 0, 1, 2, 0, 0, 0, 0, 0],
-        [3, 329492, 10, 3, 1, 329492, 10, 3, 1, 4294967295, 0, 0],
-        settings,
-    );
-    let b = words::in_range(
-        [0; 12],
-        [1, 1, 4, 989, 989, 1, 255, 4, 1, 255, 989, 0],
-        align,
-    );
-    let c = words::in_range([0; 12], [1, 1, 3, 1, 4, 1, 9, 1, 4, 1, 2, 0], section);
-    let d = words::in_range([0; 12], [1, 1, 3, 1, 4, 1, 9, 7, 3, 1, 7, 0], path);
-    let e = words::in_range(
-        [0; 12],
-        [400000, 400000, 400000, 1, 1, 400000, 400000, 1, 1, 1, 1, 0],
-        second,
-    );
-    let f = words::in_range(
-        [0; 12],
-        [
-            400000,
-            400000,
-            400000,
-            400000,
-            400000,
-            400000,
-            400000,
-            400000,
-            400000,
-            400000,
-            0,
-            0,
-        ],
-        heads,
-    );
-    a & b & c & d & e & f
-}
-
 // The section and the path of their words and of the traces in lent bytes.
 fn section_in(b: &[u8], w: [u32; 12]) -> SectionState
     ensures { λ r. ⌜ r ≡ sectionIn (now (b .entry)) w ⌝ }
@@ -394,17 +317,6 @@ fn settings_in(b: &[u8], w: [u32; 12]) -> Settings
     let snames = codec::names_in(b, 672);
     let pnames = codec::names_in(b, 704);
     settings_of(w, snames, pnames)
-}
-
-// Whether lent bytes are a supervisor's: their length, then their numbers.
-pub fn is_sound(b: &[u8]) -> bool
-    ensures { λ r. ⌜ r ≡ sound (now (b .entry)) ⌝ }
-{
-    if b.len() == 736 {
-        let n = numbers_in(b);
-        return is_ranged(n);
-    }
-    false
 }
 
 // The supervisor of numbers and of the arrays in lent bytes.
@@ -438,7 +350,7 @@ fn supervisor_of(b: &[u8], n: Numbers) -> Supervisor
 pub fn supervisor_in(b: &[u8]) -> Supervisor
     ensures { λ r. ⌜ r ≡ loadOf (now (b .entry)) ⌝ }
 {
-    let n = numbers_in(b);
+    let n = ranges::numbers_in(b);
     supervisor_of(b, n)
 }
 

@@ -1,7 +1,7 @@
-use Rattle.image.specs.Image.{numbersIn}
+use Rattle.ranges.specs.Sound.{numbersIn}
 use borrow.Author.Needs.{needs}
-use Rattle.image.proofs.numbers_in.Statement.{statement}
-use Rattle.image.proofs.numbers_in.Tie as tie
+use Rattle.ranges.proofs.numbers_in.Statement.{statement}
+use Rattle.ranges.proofs.numbers_in.Tie as tie
 
 words-in-requires : tie.Need-words-in-requires
 words-in-requires c κs = search needs

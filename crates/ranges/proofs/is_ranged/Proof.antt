@@ -1,7 +1,7 @@
-use Rattle.image.specs.Image.{ranged}
+use Rattle.ranges.specs.Sound.{ranged}
 use borrow.Author.Needs.{needs}
-use Rattle.image.proofs.is_ranged.Statement.{statement}
-use Rattle.image.proofs.is_ranged.Tie as tie
+use Rattle.ranges.proofs.is_ranged.Statement.{statement}
+use Rattle.ranges.proofs.is_ranged.Tie as tie
 
 in-range-requires : tie.Need-in-range-requires
 in-range-requires c κs = search needs

@@ -1,8 +1,8 @@
-use Rattle.image.specs.Image.{sound}
+use Rattle.ranges.specs.Sound.{sound}
 use borrow.Author.Tests.{eq-eqb, ne-eqb}
 use borrow.Author.Needs.{needs}
-use Rattle.image.proofs.is_sound.Statement.{statement}
-use Rattle.image.proofs.is_sound.Tie as tie
+use Rattle.ranges.proofs.is_sound.Statement.{statement}
+use Rattle.ranges.proofs.is_sound.Tie as tie
 
 numbers-in-requires : tie.Need-numbers-in-requires
 numbers-in-requires c κs = search needs
