@@ -16,7 +16,8 @@ use Rattle.layer.specs.declared.Layer.{Layer}
 use Rattle.settings.specs.declared.Settings.{Settings}
 use Rattle.supervisor.specs.declared.Supervisor.{Supervisor}
 use Rattle.ranges.specs.declared.Numbers.{Numbers}
-use Rattle.image.specs.Image.{numbersOf, loadOf, numberPieces, tracePieces, namePieces, piecesOf, bytesOf, Arrays, Stored}
+use Rattle.numbers.specs.Numbers.{numbersOf}
+use Rattle.image.specs.Image.{loadOf, numberPieces, tracePieces, namePieces, piecesOf, bytesOf, Arrays, Stored}
 
 -- twelve words are 48 bytes
 words : (w : List ℕ) → length w ≡ 12 → length (flat w) ≡ 48

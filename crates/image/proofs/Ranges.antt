@@ -29,7 +29,10 @@ use Rattle.ranges.specs.declared.Numbers.{Numbers}
 use Rattle.answer.specs.Bits.{flag}
 use Rattle.answer.proofs.Bits.{flag-most}
 use Rattle.ranges.specs.Sound.{settingsRanged, alignRanged, sectionRanged, pathRanged, secondRanged, headsRanged, ranged, numbersIn, sound}
-use Rattle.image.specs.Image.{on, settingsWords, alignWords, sectionWords, pathWords, secondWords, ten, headsWords, numbersOf, settingsOf, alignOf, layerOf, sectionOf, pathOf, secondOf, loadOf, piecesOf, bytesOf, Traces, Names, Arrays}
+use Rattle.layer.specs.declared.Layer.{Layer}
+use Rattle.numbers.specs.declared.LayerBytes.{LayerBytes}
+use Rattle.numbers.specs.Numbers.{on, settingsWords, alignWords, sectionWords, pathWords, secondWords, ten, headsWords, numbersOf, settingsOf, alignOf, layerOf, sectionOf, pathOf, secondOf}
+use Rattle.image.specs.Image.{loadOf, piecesOf, bytesOf, Traces, Names, Arrays}
 use Rattle.image.specs.Ranges.{SameRanges, RoundTrip}
 use Rattle.image.proofs.Bytes.{sized, length-bytes}
 
@@ -248,12 +251,16 @@ settings-back s seconds i =
 align-back : (a : Alignment) → AlignmentIn a → alignOf (alignWords a) ≡ a
 align-back a i = simp (flag-back, byte (a .multi .number) (omega arith), byte (a .multi .previous) (omega arith))
 
+-- a layer's traces
+abbrev tracesOf : Layer → LayerBytes
+tracesOf l = record { accepted = l .accepted; gathered = l .gathered; previous = l .previous }
+
 section-back : (s : SectionState)
-    → sectionOf (sectionWords s) (layerOf (sectionWords s) (s .layer .accepted) (s .layer .gathered) (s .layer .previous)) ≡ s
+    → sectionOf (sectionWords s) (layerOf (sectionWords s) (tracesOf (s .layer))) ≡ s
 section-back s = simp flag-back
 
 path-back : (s : PathState) → PathIn s
-    → pathOf (pathWords s) (layerOf (pathWords s) (s .layer .accepted) (s .layer .gathered) (s .layer .previous)) ≡ s
+    → pathOf (pathWords s) (layerOf (pathWords s) (tracesOf (s .layer))) ≡ s
 path-back s i = simp (flag-back, byte (s .stat .value) (omega arith), byte (s .stat .accepted) (omega arith))
 
 second-back : (c : Second) → length (c .heads) ≡ 10 → secondOf (secondWords c) (headsWords c) ≡ c

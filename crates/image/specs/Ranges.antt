@@ -5,7 +5,8 @@ use lib.ListN.{length}
 use Rattle.history.specs.Ranges.{Ranged}
 use Rattle.supervisor.specs.declared.Supervisor.{Supervisor}
 use Rattle.ranges.specs.Sound.{ranged, sound}
-use Rattle.image.specs.Image.{numbersOf, loadOf, bytesOf, Arrays}
+use Rattle.numbers.specs.Numbers.{numbersOf}
+use Rattle.image.specs.Image.{loadOf, bytesOf, Arrays}
 
 -- the range test of the words is that of the definitions: the same supervisors pass, their arrays having their lengths
 pub record SameRanges (s : Supervisor) : Type 0 where

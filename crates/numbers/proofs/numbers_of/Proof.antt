@@ -1,6 +1,6 @@
 use borrow.Author.Needs.{needs}
-use Rattle.image.proofs.numbers_of.Statement.{statement}
-use Rattle.image.proofs.numbers_of.Tie as tie
+use Rattle.numbers.proofs.numbers_of.Statement.{statement}
+use Rattle.numbers.proofs.numbers_of.Tie as tie
 
 settings-words-requires : tie.Need-settings-words-requires
 settings-words-requires c κs = search needs
