@@ -1,7 +1,7 @@
 -- The supervisor as 736 bytes: its numbers as little-endian words in six segments of twelve, then its arrays. Assumes nothing.
 use mathlib.Core.Path.{_≡_}
 use mathlib.Core.List.{List, [], _∷_, _++_}
-use Prim.Native.Nat.{ℕ}
+use Prim.Native.Nat.{ℕ, _+_}
 use lib.ListN.{length}
 use Rattle.words.specs.Words.{flat}
 use Rattle.codec.specs.Over.{bytesIn}
@@ -17,14 +17,12 @@ use Rattle.numbers.specs.Numbers.{numbersOf, supervisorWith}
 
 -- Where the arrays stand in the bytes.
 
-abbrev pub sectionIn : List ℕ → LayerBytes
-sectionIn l = record { accepted = bytesIn 64 288 l; gathered = bytesIn 64 352 l; previous = bytesIn 64 416 l }
-
-abbrev pub pathIn : List ℕ → LayerBytes
-pathIn l = record { accepted = bytesIn 64 480 l; gathered = bytesIn 64 544 l; previous = bytesIn 64 608 l }
+-- a layer's three traces, one behind the other
+abbrev pub tracesIn : ℕ → List ℕ → LayerBytes
+tracesIn at l = record { accepted = bytesIn 64 at l; gathered = bytesIn 64 (at + 64) l; previous = bytesIn 64 (at + 128) l }
 
 abbrev pub arraysIn : List ℕ → ArrayBytes
-arraysIn l = record { section = sectionIn l; path = pathIn l; snames = bytesIn 32 672 l; pnames = bytesIn 32 704 l }
+arraysIn l = record { section = tracesIn 288 l; path = tracesIn 480 l; snames = bytesIn 32 672 l; pnames = bytesIn 32 704 l }
 
 -- the supervisor that stands in bytes
 unfoldable pub loadOf : List ℕ → Supervisor

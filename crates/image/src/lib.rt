@@ -8,28 +8,16 @@ use supervisor::Supervisor;
 ghost use mathlib.Core.Path.{_≡_};
 ghost use Prim.Native.Nat.{_≤_};
 ghost use Rattle.codec.specs.Pieces.{lays};
-ghost use Rattle.image.specs.Image.{sectionIn, pathIn, arraysIn, loadOf, numberPieces, TracesLaid, NamesLaid, Stored};
+ghost use Rattle.image.specs.Image.{tracesIn, arraysIn, loadOf, numberPieces, TracesLaid, NamesLaid, Stored};
 
-// The three traces of the section and of the path.
-fn section_in(b: &[u8]) -> LayerBytes
-    ensures { λ r. ⌜ r ≡ sectionIn (now (b .entry)) ⌝ }
+// The three traces of a layer, from a place on.
+fn traces_in(b: &[u8], at: u32) -> LayerBytes
+    requires { ⌜ at ≤ 600 ⌝ }
+    ensures { λ r. ⌜ r ≡ tracesIn at (now (b .entry)) ⌝ }
 {
-    let accepted = codec::trace_in(b, 288);
-    let gathered = codec::trace_in(b, 352);
-    let previous = codec::trace_in(b, 416);
-    LayerBytes {
-        accepted: accepted,
-        gathered: gathered,
-        previous: previous,
-    }
-}
-
-fn path_in(b: &[u8]) -> LayerBytes
-    ensures { λ r. ⌜ r ≡ pathIn (now (b .entry)) ⌝ }
-{
-    let accepted = codec::trace_in(b, 480);
-    let gathered = codec::trace_in(b, 544);
-    let previous = codec::trace_in(b, 608);
+    let accepted = codec::trace_in(b, at);
+    let gathered = codec::trace_in(b, at + 64);
+    let previous = codec::trace_in(b, at + 128);
     LayerBytes {
         accepted: accepted,
         gathered: gathered,
@@ -41,8 +29,8 @@ fn path_in(b: &[u8]) -> LayerBytes
 fn arrays_in(b: &[u8]) -> ArrayBytes
     ensures { λ r. ⌜ r ≡ arraysIn (now (b .entry)) ⌝ }
 {
-    let section = section_in(b);
-    let path = path_in(b);
+    let section = traces_in(b, 288);
+    let path = traces_in(b, 480);
     let snames = codec::names_in(b, 672);
     let pnames = codec::names_in(b, 704);
     ArrayBytes {

@@ -2,7 +2,7 @@
 use mathlib.Core.Path.{_≡_, ap, sym, _∙_}
 use Prim.Native.Nat.{ℕ}
 use native.Mathlib.Omega.{arith}
-use lib.ListN.{getD, replicate}
+use lib.ListN.{getD}
 use Rattle.answer.specs.Answer.{NoAnswer}
 use Rattle.ranges.specs.declared.Numbers.{Numbers}
 use Rattle.supervisor.specs.declared.Supervisor.{Supervisor}
