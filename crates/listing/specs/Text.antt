@@ -22,12 +22,12 @@ fieldsOf [] = []
 fieldsOf (n ∷ ns) = fieldOf n ++ fieldsOf ns
 
 -- the start of a line: a letter, and numbers each after a blank
-abbrev pub startOf : ℕ → List ℕ → List ℕ
-startOf letter ns = letter ∷ fieldsOf ns
+abbrev pub lineStart : ℕ → List ℕ → List ℕ
+lineStart letter ns = letter ∷ fieldsOf ns
 
 -- a line: its start and a line end
 unfoldable pub lineOf : ℕ → List ℕ → List ℕ
-lineOf letter ns = startOf letter ns ++ (10 ∷ [])
+lineOf letter ns = lineStart letter ns ++ (10 ∷ [])
 
 -- "S: second from 1, frames, heads 0 to 9, section near blocks, far blocks, near DS, far DS, then the path's four."
 abbrev pub secondLine : List ℕ → List ℕ

@@ -4,7 +4,7 @@ ghost use mathlib.Core.List.{[], _∷_};
 ghost use Prim.Native.Nat.{_+_, _-_, _*_, _≤_, _<_};
 ghost use lib.ListN.{length};
 ghost use Rattle.answer.specs.Over.{over};
-ghost use Rattle.listing.specs.Text.{decimalOf, fieldOf, fieldsOf, startOf, lineOf, fitted, secondLine, refusalLine, endLine, numberRoom, startRoom, secondRoom, pairRoom};
+ghost use Rattle.listing.specs.Text.{decimalOf, fieldOf, fieldsOf, lineStart, lineOf, fitted, secondLine, refusalLine, endLine, numberRoom, startRoom, secondRoom, pairRoom};
 ghost use Rattle.listing.specs.Wrote.{Wrote};
 
 fn wide(x: u32) -> u64
@@ -88,7 +88,7 @@ fn put_fields(ns: &[u64], out: &mut [u8], from: usize) -> usize
 
 // Puts a letter and three numbers, the start of a line, as `put_text` does, where there is room for `startRoom`.
 pub fn put_start(letter: u8, ns: [u64; 3], out: &mut [u8], at: usize) -> usize
-    ensures { λ r. ⌜ (r ≡ at + length (fitted (length (now (out .entry))) at startRoom (startOf letter ns))) × (now (out .exit) ≡ over (now (out .entry)) at (fitted (length (now (out .entry))) at startRoom (startOf letter ns))) ⌝ }
+    ensures { λ r. ⌜ (r ≡ at + length (fitted (length (now (out .entry))) at startRoom (lineStart letter ns))) × (now (out .exit) ≡ over (now (out .entry)) at (fitted (length (now (out .entry))) at startRoom (lineStart letter ns))) ⌝ }
 {
     let free = room(out.len(), at);
     if 64 <= free {

@@ -1,7 +1,7 @@
 use Rattle.listing.proofs.Overs.{fields-length}
 use Rattle.listing.proofs.Wrotes.{wrote-then, wrote-more, wrote-text, wrote-fitted}
 use Rattle.listing.specs.Bytes.{bytes}
-use Rattle.listing.specs.Text.{startOf}
+use Rattle.listing.specs.Text.{lineStart}
 use Rattle.change.specs.Change.{beginningOf, frameLine}
 use lib.ListN.{length}
 use mathlib.Core.List.{[], _∷_}
@@ -40,7 +40,7 @@ returns c =
     let q = c .before .before .before .before .before .before .before .put-text in
     let ns = a .second ∷ w .result ∷ a .total ∷ [] in
     let l = fields-length ns in
-    let x = wrote-fitted 64 (a .at) (p .result) 64 (now (a .out)) (p .last .1 .1 .0) (startOf 70 ns) (omega (arith, s .pre)) (omega arith) (omega arith) (p .ensures) in
+    let x = wrote-fitted 64 (a .at) (p .result) 64 (now (a .out)) (p .last .1 .1 .0) (lineStart 70 ns) (omega (arith, s .pre)) (omega arith) (omega arith) (p .ensures) in
     let y = wrote-text (p .last .1 .1 .0) (p .result) (now (a .changes)) (omega (arith, s .pre, x .place, x .bound, p .kept .1 .1 .0)) (q .ensures) in
     let z = wrote-text (q .last .1 .0) (q .result) (bytes "\n") (omega (arith, s .pre, x .place, x .bound, y .place, p .kept .1 .1 .0, q .kept .1 .0)) (c .before .before .put-text2 .ensures) in
     rw (← w .ensures) (wrote-more (65 + length (now (a .changes))) (omega arith) (wrote-then x (wrote-then y z)))
