@@ -1,8 +1,8 @@
--- Wrong answers that the contract of `told_line` shuts out, each for one record. Assumes nothing.
+-- Wrong answers that the contracts shut out, each for one input. Assumes nothing.
 use Prim.Native.Nat.{ℕ, _-_, _≤_}
 use native.Mathlib.Omega.{arith}
 use mathlib.Core.Path.{_≡_, refl, _∙_, ap, sym}
-use mathlib.Core.Bool.{true, false}
+use mathlib.Core.Bool.{Bool, true, false}
 use mathlib.Core.List.{List, []}
 use lib.ListN.{length, getD}
 use lib.Dec.{leb}
@@ -21,7 +21,9 @@ use Rattle.change.specs.Change.{shownOf, headChange, printableOf, readableOf, t
 use Rattle.trace.specs.declared.State.{State}
 use Rattle.trace.specs.Scan.{startOf}
 use Rattle.stream.specs.Stream.{change}
-use Rattle.lines.specs.Line.{lineFor}
+use Rattle.lines.specs.Line.{lineFor, endingOf}
+use Rattle.lines.proofs.last_lines.Kinds as last-kinds
+use Rattle.lines.proofs.last_lines.Reads as last-reads
 use Rattle.lines.proofs.told_line.Kinds as told-kinds
 use Rattle.lines.proofs.told_line.Reads as told-reads
 
@@ -67,3 +69,15 @@ second-from-0 κs a x s h p z =
     let f : fitted (length d) 0 1024 l ≡ l = fitted-is (length d) 0 1024 l (omega arith) in
     let e : _≡_ {A = ℕ} 48 49 = sym z ∙ ap (λ (o : List ℕ). getD o 2 0) (p .2 ∙ ap (over d 0) f) ∙ first-second d in
     omega arith
+
+nothing-put : (long at : ℕ) (done : Bool) (refusal offset marks frames : ℕ) → done ≡ false → length (fitted long at 88 (endingOf done refusal offset marks frames)) ≡ 0
+unfolding fitted
+nothing-put long at done refusal offset marks frames e =
+    rw e (by-cond (λ (l : List ℕ). length l ≡ 0) (leb 88 (long - at)) (λ _. refl) (λ _. refl))
+
+-- last_lines: before the output is whole no last line is put
+pub last-too-early : (κs : Lfts 1) (a : Dens κs last-kinds.ps) (s : AtExit (endedOf 1 last-kinds.ps last-kinds.r) κs)
+    → a .0 ≡ false → a .1 .1 .1 .1 .1 .1 .0 ≡ 0 → last-reads.Post κs a 1 s → ⊥
+last-too-early κs a s d at p =
+    let e = nothing-put (length (now (a .1 .1 .1 .1 .1 .0))) (a .1 .1 .1 .1 .1 .1 .0) (a .0) (a .1 .0) (a .1 .1 .0) (a .1 .1 .1 .0) (a .1 .1 .1 .1 .0) d in
+    omega (arith, p .0, e, at)

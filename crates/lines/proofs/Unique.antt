@@ -6,9 +6,17 @@ use denote.Ref.{now}
 use Rattle.answer.specs.Answer.{OneAnswer, OneEnd}
 use Rattle.lines.proofs.told_line.Kinds as told-kinds
 use Rattle.lines.proofs.told_line.Reads as told-reads
+use Rattle.lines.proofs.last_lines.Kinds as last-kinds
+use Rattle.lines.proofs.last_lines.Reads as last-reads
 
 pub told-one : OneAnswer 1 told-kinds.ps told-kinds.r told-reads.Post
 told-one κs a x y s t p q = p .0 ∙ sym (q .0)
 
 pub told-end : OneEnd 1 told-kinds.ps told-kinds.r (List ℕ) (λ κs s. now (s .1 .1 .1 .0)) told-reads.Post
 told-end κs a x y s t p q = p .2 ∙ sym (q .2)
+
+pub last-one : OneAnswer 1 last-kinds.ps last-kinds.r last-reads.Post
+last-one κs a x y s t p q = p .0 ∙ sym (q .0)
+
+pub last-end : OneEnd 1 last-kinds.ps last-kinds.r (List ℕ) (λ κs s. now (s .1 .1 .1 .1 .1 .0)) last-reads.Post
+last-end κs a x y s t p q = p .1 ∙ sym (q .1)

@@ -1,7 +1,9 @@
--- What is told as text: the line of a second that was closed, and of a record with which anything changed. Assumes nothing.
+-- What is told as text: the line of a second that was closed, of a record with which anything changed, and the last lines. Assumes nothing.
 use Prim.Native.Nat.{ℕ, _+_}
-use mathlib.Core.List.{List}
-use Rattle.listing.specs.Text.{secondLine}
+use mathlib.Core.Bool.{Bool, cond}
+use mathlib.Core.List.{List, [], _++_}
+use lib.Dec.{eqb}
+use Rattle.listing.specs.Text.{secondLine, refusalLine, endLine}
 use Rattle.causes.specs.Causes.{reportOf}
 use Rattle.change.specs.declared.Shown.{Shown}
 use Rattle.change.specs.Change.{shownOf, changeLine}
@@ -17,3 +19,16 @@ shownIn st = shownOf (st .sup) (reportOf (st .standing) 0 0)
 unfoldable pub lineFor : Note → List ℕ
 lineFor (second figures) = secondLine figures
 lineFor (change total was is) = changeLine (is .sup .seconds + 1) (is .sup .second .frames .0) total (shownIn was) (shownIn is)
+
+-- "A refusal prints `R`, its number and the record's byte offset, then E." "E: marks and frames accepted."
+unfoldable pub lastLines : ℕ → ℕ → ℕ → ℕ → List ℕ
+lastLines refusal offset marks frames =
+    cond (eqb refusal 0) (endLine marks frames) (refusalLine refusal offset ++ endLine marks frames)
+
+-- the last lines, where the output ends with them
+abbrev pub endingOf : Bool → ℕ → ℕ → ℕ → ℕ → List ℕ
+endingOf done refusal offset marks frames = cond done (lastLines refusal offset marks frames) []
+
+-- the room that they are given: two lines of 44 bytes at most
+abbrev pub lastRoom : ℕ
+lastRoom = 88

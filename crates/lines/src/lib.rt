@@ -1,4 +1,4 @@
-// The line of a record that a scan told, from the states before and after it.
+// The line of a record that a scan told, from the states before and after it; and the last lines.
 use change::Shown;
 use trace::State;
 ghost use mathlib.Core.Path.{_≡_};
@@ -8,7 +8,7 @@ ghost use Rattle.answer.specs.Over.{over};
 ghost use Rattle.listing.specs.Text.{fitted};
 ghost use Rattle.change.specs.Change.{changeRoom};
 ghost use Rattle.stream.specs.Stream.{change};
-ghost use Rattle.lines.specs.Line.{shownIn, lineFor};
+ghost use Rattle.lines.specs.Line.{shownIn, lineFor, endingOf, lastRoom};
 
 fn wide32(x: u32) -> u64
     ensures { λ r. ⌜ (r ≡ x) × (r < 4294967296) ⌝ }
@@ -42,4 +42,48 @@ pub fn told_line(was: State, is: State, total: u64, out: &mut [u8], at: usize) -
         out,
         at,
     )
+}
+
+// The last lines, where the output is whole with them: the refusal, if there is one, and what was accepted.
+fn finish(
+    done: bool,
+    refusal: u8,
+    offset: u64,
+    marks: u32,
+    frames: u64,
+    out: &mut [u8],
+    at: usize,
+) -> usize
+    requires { ⌜ at + 88 ≤ length (now out) ⌝ }
+    ensures { λ n. ⌜ (n ≡ at + length (endingOf done refusal offset marks frames)) × (now (out .exit) ≡ over (now (out .entry)) at (endingOf done refusal offset marks frames)) ⌝ }
+{
+    if done {
+        if refusal == 0 {
+            return listing::end_line(marks, frames, out, at);
+        }
+        let p = listing::refusal_line(refusal, offset, out, at);
+        return listing::end_line(marks, frames, out, p);
+    }
+    at
+}
+
+// Puts the last lines at a place, where the output is `done` with them; where out has not the room, nothing.
+pub fn last_lines(
+    done: bool,
+    refusal: u8,
+    offset: u64,
+    marks: u32,
+    frames: u64,
+    out: &mut [u8],
+    at: usize,
+) -> usize
+    ensures { λ r. ⌜ (r ≡ at + length (fitted (length (now (out .entry))) at lastRoom (endingOf done refusal offset marks frames))) × (now (out .exit) ≡ over (now (out .entry)) at (fitted (length (now (out .entry))) at lastRoom (endingOf done refusal offset marks frames))) ⌝ }
+{
+    if out.len() < 88 {
+        return at;
+    }
+    if out.len() - 88 < at {
+        return at;
+    }
+    finish(done, refusal, offset, marks, frames, out, at)
 }

@@ -8,15 +8,24 @@ use lib.Dec.{eqb}
 use lib.ListN.{length, drop, length-append, length-drop}
 use borrow.Author.Tests.{eqb-true, eqb-false}
 use Rattle.answer.specs.Over.{over}
-use Rattle.listing.proofs.Overs.{then}
+use Rattle.listing.specs.Text.{fitted}
+use Rattle.listing.proofs.Overs.{then, fitted-is}
 use Rattle.stream.specs.Stream.{Note, Scan, before, scanFrom, goesOn, resume, onward, joined}
 use Rattle.stream.proofs.Streams.{scan-append}
 use Rattle.stream.proofs.Counts.{start-counted, Comes, comes}
 use Rattle.reading.specs.Listing.{linesOf, tailOf, textOf, printedOf}
-use Rattle.reading.specs.Turn.{readingOf, readFrom, startReading, Sound, endingOf, writtenOf, turnOf, toCome, TurnLaw, outputOf, InPieces}
+use Rattle.lines.specs.Line.{endingOf}
+use Rattle.reading.specs.Turn.{readingOf, readFrom, startReading, Sound, writtenOf, turnOf, toCome, TurnLaw, outputOf, InPieces}
 use Rattle.reading.specs.declared.Reading.{Reading}
 use Rattle.reading.proofs.Lines.{Gathered, gatheredOf}
 use Rattle.reading.specs.declared.Turned.{Turned}
+
+-- the last lines, where there is room for them
+pub ending-put : (d : List ℕ) (at r : ℕ) (o v : List ℕ) → at + 88 ≤ length d → r ≡ at + length (fitted (length d) at 88 v) → o ≡ over d at (fitted (length d) at 88 v)
+    → (r ≡ at + length v) × (o ≡ over d at v)
+ending-put d at r o v h e t =
+    let f : fitted (length d) at 88 v ≡ v = fitted-is (length d) at 88 v h in
+    (e ∙ ap (λ (w : List ℕ). at + length w) f, t ∙ ap (over d at) f)
 
 -- what `turn` answers
 module _ (from : Reading) (s : List ℕ) (ended : Bool) (d o : List ℕ) (text : o ≡ over d 0 (linesOf (readFrom from s .told))) where

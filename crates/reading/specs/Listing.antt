@@ -1,22 +1,15 @@
 -- What the programs print of a trace: from the bytes of the whole input to the bytes of the whole output (document 01, "Trace records and the
 -- listing"). Assumes nothing.
 use Prim.Native.Nat.{ℕ}
-use mathlib.Core.Bool.{Bool, true, false, cond}
+use mathlib.Core.Bool.{Bool, true, false}
 use mathlib.Core.List.{List, [], _∷_, _++_}
-use lib.Dec.{eqb}
-use Rattle.listing.specs.Text.{refusalLine, endLine}
-use Rattle.lines.specs.Line.{lineFor}
+use Rattle.lines.specs.Line.{lineFor, lastLines}
 use Rattle.stream.specs.Stream.{Note, Scan, scanOf}
 
 -- the lines of all that is told
 unfoldable pub linesOf : List Note → List ℕ
 linesOf [] = []
 linesOf (n ∷ ns) = lineFor n ++ linesOf ns
-
--- "A refusal prints `R`, its number and the record's byte offset, then E." "E: marks and frames accepted."
-unfoldable pub lastLines : ℕ → ℕ → ℕ → ℕ → List ℕ
-lastLines refusal offset marks frames =
-    cond (eqb refusal 0) (endLine marks frames) (refusalLine refusal offset ++ endLine marks frames)
 
 -- those of a scan: the marks accepted are the seconds closed
 abbrev pub tailOf : Scan → List ℕ

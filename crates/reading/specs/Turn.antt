@@ -9,7 +9,7 @@ use lib.Dec.{eqb}
 use Rattle.trace.specs.Scan.{startOf}
 use Rattle.stream.specs.Stream.{Scan, scanFrom, goesOn, joined}
 use Rattle.stream.specs.Counts.{Counted}
-use Rattle.reading.specs.Listing.{linesOf, lastLines, tailOf, textOf, printedOf}
+use Rattle.reading.specs.Listing.{linesOf, tailOf, textOf, printedOf}
 use Rattle.reading.specs.declared.Reading.{Reading}
 use Rattle.reading.specs.declared.Halt.{Halt}
 use Rattle.trace.specs.declared.Stop.{Stop}
@@ -46,10 +46,6 @@ haltOf stop.Told = record { ends = false; told = true; refusal = 0 }
 -- the output ends where the input has ended, and at a refusal that more bytes would not change
 abbrev pub doneOf : Scan → Bool → Bool
 doneOf c ended = ended || not (goesOn (c .refusal))
-
--- the last lines, where the output ends with them
-abbrev pub endingOf : Bool → ℕ → ℕ → ℕ → ℕ → List ℕ
-endingOf done refusal offset marks frames = cond done (lastLines refusal offset marks frames) []
 
 -- what is written after the bytes s: the lines of what they tell, and at the end the last lines
 unfoldable pub writtenOf : Reading → List ℕ → Bool → List ℕ

@@ -9,7 +9,7 @@ ghost use Prim.Native.Nat.{_+_, _≤_, _<_};
 ghost use lib.ListN.{length, take, drop};
 ghost use Rattle.stream.specs.Stream.{goesOn};
 ghost use Rattle.answer.specs.Over.{over};
-ghost use Rattle.reading.specs.Turn.{Sound, startRefilled, haltOf, endingOf, writtenOf, turnOf, Refill};
+ghost use Rattle.reading.specs.Turn.{Sound, startRefilled, haltOf, writtenOf, turnOf, Refill};
 
 // Where the reading stands between two pieces: whether every record is told, the scan's state, the offset of the next record, and the frames
 // accepted.
@@ -76,29 +76,6 @@ fn halt_of(stop: Stop) -> Halt
     }
 }
 
-// Puts the last lines at a place of out, where the output is whole with them: the refusal, if there is one, and what was accepted.
-fn finish(
-    done: bool,
-    refusal: u8,
-    offset: u64,
-    marks: u32,
-    frames: u64,
-    out: &mut [u8],
-    at: usize,
-) -> usize
-    requires { ⌜ at + 88 ≤ length (now out) ⌝ }
-    ensures { λ n. ⌜ (n ≡ at + length (endingOf done refusal offset marks frames)) × (now (out .exit) ≡ over (now (out .entry)) at (endingOf done refusal offset marks frames)) ⌝ }
-{
-    if done {
-        if refusal == 0 {
-            return listing::end_line(marks, frames, out, at);
-        }
-        let p = listing::refusal_line(refusal, offset, out, at);
-        return listing::end_line(marks, frames, out, p);
-    }
-    at
-}
-
 // Whether more bytes could change a refusal: none stands, or a record is cut.
 fn goes_on(refusal: u8) -> bool
     ensures { λ r. ⌜ r ≡ goesOn refusal ⌝ }
@@ -134,7 +111,7 @@ fn turn(from: Reading, s: &[u8], ended: bool, out: &mut [u8]) -> Turned
             let done = ended | !more;
             let offset = from.at + wide(at);
             let marks = state.sup.seconds;
-            let last = finish(done, h.refusal, offset, marks, frames, out, put);
+            let last = lines::last_lines(done, h.refusal, offset, marks, frames, out, put);
             return Turned {
                 reading: Reading {
                     tell: from.tell,

@@ -1,9 +1,9 @@
 use Rattle.reading.proofs.Lines.{Gathered, Going, going-start, halt-closed, halt-told, halts, run-stands, run-sound, going-closed, going-told, going-end}
-use Rattle.reading.proofs.Turns.{turned}
+use Rattle.reading.proofs.Turns.{ending-put, turned}
 use lib.ListN.{length}
 use denote.Ref.{now}
 use mathlib.Core.Path.{_∙_}
-use Prim.Native.Nat.{_-_, _+_}
+use Prim.Native.Nat.{_-_, _+_, _≤_}
 use native.Mathlib.Omega.{arith}
 use borrow.Author.Needs.{needs}
 use Rattle.reading.proofs.turn.Statement.{statement}
@@ -51,11 +51,11 @@ add-offset c =
     let h = run-sound (a .from) (now (a .s)) (now (a .out)) (l .out) (l .at) (l .put) (l .state) (l .frames) (l .inv) (r .result) (r .ensures) in
     omega (arith, c .before .wide2 .ensures, h .within, h .few, h .held, h .seconds)
 
-finish-requires : tie.Need-finish-requires Inv-loop μ-loop
-finish-requires c κs = let l = c .before .before .before .before .before .before .before .before .before .loop in omega (arith, l .inv .room, l .inv .inside, l .inv .long, c .before .before .before .before .before .before .before .before .before .before .before .before .before .pre .1)
+last-lines-requires : tie.Need-last-lines-requires Inv-loop μ-loop
+last-lines-requires c κs = search needs
 
 same-length : tie.Need-same-length Inv-loop μ-loop
-same-length c = let l = c .before .before .before .before .before .before .before .before .before .before .before .before .loop in c .before .before .finish .kept .1 .1 .1 .1 .1 .0 ∙ l .inv .long
+same-length c = let l = c .before .before .before .before .before .before .before .before .before .before .before .before .loop in c .before .before .last-lines .kept .1 .1 .1 .1 .1 .0 ∙ l .inv .long
 
 returns : tie.Need-returns Inv-loop μ-loop
 returns c =
@@ -64,12 +64,14 @@ returns c =
     let r = c .before .before .before .before .before .before .before .before .before .before .before .scan in
     let h = c .before .before .before .before .before .before .before .before .halt-of in
     let m = c .before .before .before .before .before .before .goes-on in
-    let x = c .before .before .finish in
+    let x = c .before .before .last-lines in
     let e = c .before .before .before .before .before .before .before .before .before .wide .ensures in
     let o = c .before .before .before .before .before .wide2 .ensures in
     let z = going-end (a .from) (now (a .s)) (now (a .out)) (l .out) (l .at) (l .put) (l .state) (l .frames) (l .inv) (r .result) (r .ensures) (h .result .refusal) (r .result .at) (halts (a .from) (now (a .s)) (now (a .out)) (l .out) (l .at) (l .put) (l .state) (l .frames) (l .inv) (r .result) (r .ensures) (h .result) (h .ensures) (c .before .before .before .before .before .before .before .if1 .taken)) in
     let g : Gathered = record { reading = record { tell = a .from .tell; state = r .result .state; at = a .from .at + r .result .at; frames = l .frames + r .result .frames }; used = r .result .at; put = l .put; refusal = h .result .refusal } in
-    rw (e, o) (turned (a .from) (now (a .s)) (a .ended) (now (a .out)) (l .out) (z .1) g (z .0) (m .result) (m .ensures) (x .result) (x .last .1 .1 .1 .1 .1 .0) (rw (e, o) at (x .ensures .0)) (rw (e, o) at (x .ensures .1)))
+    let roomy : l .put + 88 ≤ length (l .out) = omega (arith, l .inv .room, l .inv .inside, l .inv .long, c .before .before .before .before .before .before .before .before .before .before .before .before .before .before .before .before .pre .1) in
+    let y = ending-put (l .out) (l .put) (x .result) (x .last .1 .1 .1 .1 .1 .0) _ roomy (x .ensures .0) (x .ensures .1) in
+    rw (e, o) (turned (a .from) (now (a .s)) (a .ended) (now (a .out)) (l .out) (z .1) g (z .0) (m .result) (m .ensures) (x .result) (x .last .1 .1 .1 .1 .1 .0) (rw (e, o) at (y .0)) (rw (e, o) at (y .1)))
 
 told-line-requires : tie.Need-told-line-requires Inv-loop μ-loop
 told-line-requires c κs = search needs
@@ -128,7 +130,7 @@ turn-spec =
     goes-on-requires
     wide-requires-2
     add-offset
-    finish-requires
+    last-lines-requires
     same-length
     returns
     told-line-requires

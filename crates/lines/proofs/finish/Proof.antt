@@ -1,7 +1,7 @@
 use Rattle.listing.proofs.Overs.{Put, put-then, fitted-is, line-length}
 use Rattle.answer.specs.Over.{over}
 use Rattle.listing.specs.Text.{endLine, refusalLine}
-use Rattle.reading.specs.Listing.{lastLines}
+use Rattle.lines.specs.Line.{lastLines}
 use Rattle.answer.proofs.Overs.{over-nil}
 use borrow.Author.Tests.{eq-eqb, ne-eqb}
 use lib.ListN.{length}
@@ -12,8 +12,8 @@ use native.Mathlib.Nat.{add-zero}
 use Prim.Native.Nat.{ℕ, _≤_, _+_}
 use native.Mathlib.Omega.{arith}
 use borrow.Author.Needs.{needs}
-use Rattle.reading.proofs.finish.Statement.{statement}
-use Rattle.reading.proofs.finish.Tie as tie
+use Rattle.lines.proofs.finish.Statement.{statement}
+use Rattle.lines.proofs.finish.Tie as tie
 
 end-line-requires : tie.Need-end-line-requires
 end-line-requires c κs = search needs
