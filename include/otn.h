@@ -12,8 +12,8 @@
    supervisors may be called at the same time, one supervisor may not. A supervisor may be copied, stored and moved between machines
    as bytes.
 
-   Stack: no call takes more than OTN_STACK_BYTES. Measured by tests/card.c on x86-64, which fails where one does: otn_step 3,704
-   bytes, otn_mark 2,552, otn_trace 1,464, otn_fresh 1,960. */
+   Stack: no call takes more than OTN_STACK_BYTES. Measured by tests/card.c on x86-64, which prints what each call takes, and fails
+   where one takes more than its own bound there. */
 #ifndef OTN_H
 #define OTN_H
 
@@ -24,12 +24,12 @@
 extern "C" {
 #endif
 
-#define OTN_SUPERVISOR_BYTES 736
+#define OTN_SUPERVISOR_BYTES 688
 #define OTN_OVERHEAD_BYTES 64
 #define OTN_RECORD_BYTES 80
 #define OTN_TRACE_BYTES 64
 #define OTN_NAMES_BYTES 32
-#define OTN_STACK_BYTES 4608
+#define OTN_STACK_BYTES 512
 
 /* Refusals, in the order in which they are checked: OTN_BAD_SUPERVISOR first, then by number. */
 enum otn_refusal {

@@ -8,7 +8,16 @@ out=target/c
 mkdir -p "$out"
 rt staticlib card >"$out/staticlib.log" 2>&1 || { cat "$out/staticlib.log"; exit 1; }
 library=target/staticlib/libcard.a
-warnings=(-std=c11 -O2 -Wall -Wextra -Werror)
+warnings=(-std=c11 -O2 -Wall -Wextra -Werror -I"$out")
+
+# the tables of docs/SUPERVISOR.md for C: NUMBER(offset, bytes, least, greatest) for each number, ARRAY(offset, bytes) for each array
+awk -F ' *[|] *' '
+    $2 == "Offset" { arrays = $3 == "Array" }
+    $2 !~ /^[0-9]/ { next }
+    arrays { printf "ARRAY(%d, %d)\n", $2, $4; next }
+    { n = split($2, at, / to |, /); last = at[n] + 0; apart = $2 ~ / to / ? $3 : 0 }
+    apart { for (i = at[1] + 0; i <= last; i += apart) printf "NUMBER(%d, %d, %s, %s)\n", i, $3, $5, $6; next }
+    { for (i = 1; i <= n; i++) printf "NUMBER(%d, %d, %s, %s)\n", at[i], $3, $5, $6 }' docs/SUPERVISOR.md >"$out/supervisor_bytes.h"
 
 if [ "$(uname -m)" = x86_64 ]; then
     build() { "${CC:-cc}" "${warnings[@]}" -o "$out/$1" "$2" "$library"; }

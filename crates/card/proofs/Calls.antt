@@ -1,79 +1,35 @@
 -- The ways out of each call: 17, accepted, refused. Assumes nothing.
 use mathlib.Core.Path.{_≡_, refl, sym, ap, _∙_}
-use mathlib.Core.Bool.{Bool, true, false, cond}
-use mathlib.Core.List.{List}
-use Prim.Native.Nat.{ℕ}
+use mathlib.Core.Bool.{Bool, true, false, cond, _&&_}
+use mathlib.Core.List.{List, [], _∷_}
+use Prim.Native.Nat.{ℕ, _+_, _≤_, _<_}
 use native.Mathlib.Omega.{arith}
 use lib.Dec.{eqb, leb, ltb}
-use lib.ListN.{length}
-use borrow.Author.Tests.{eq-eqb, ne-eqb, eqb-true}
-use Rattle.answer.proofs.Cond.{by-cond, and-left}
+use lib.ListN.{length, getD}
+use borrow.Author.Tests.{eq-eqb, ne-eqb, eqb-true, lt-ltb, le-ltb}
+use Rattle.answer.proofs.Cond.{by-cond}
+use Rattle.answer.specs.Checks.{Check, check}
 use Rattle.answer.proofs.Checks.{All, passed}
-use Rattle.codec.proofs.Overs.{poured-all}
-use Rattle.words.specs.Words.{flat}
-use Rattle.codec.specs.Over.{poured}
+use Rattle.codec.specs.Over.{bytesIn, poured}
+use Rattle.codec.proofs.Overs.{poured-all, length-in}
+use Rattle.words.specs.Words.{flat, wordsIn}
 use Rattle.causes.specs.Causes.{reportOf}
 use Rattle.settings.specs.Settings.{settingsRefusal}
-use Rattle.supervisor.specs.Supervisor.{stepRefusal, standsAfter, frameOf, stepOf, nextSecond, markOf, layerAt, traceRefusal, tracedOf, provisionOf}
-use Rattle.supervisor.specs.declared.Supervisor.{Supervisor}
+use Rattle.supervisor.specs.Supervisor.{stepRefusal, standsAfter, frameOf, nextSecond, layerAt, provisionOf}
 use Rattle.supervisor.specs.declared.Provisioned.{Provisioned}
-use Rattle.supervisor.specs.declared.Stepped.{Stepped}
-use Rattle.supervisor.specs.declared.Marked.{Marked}
-use Rattle.supervisor.specs.declared.Traced.{Traced}
-use Rattle.ranges.specs.Sound.{numbersIn, ranged, sound}
+use Rattle.ranges.specs.Sound.{sound}
+use Rattle.numbers.specs.declared.Head.{Head}
+use Rattle.numbers.specs.declared.State.{State}
+use Rattle.numbers.specs.Numbers.{headIn, stateIn}
+use Rattle.numbers.specs.Held.{heldIn}
 use Rattle.image.specs.Image.{loadOf, bytesOf}
+use Rattle.image.proofs.Parts.{sound-long, bytes-in-bytes}
 use Rattle.word.specs.Report.{reportWord}
-use Rattle.card.specs.Calls.{Provision, freshRefusal, freshBy, freshSup, FreshCall, callRefusal, callAnswer, callSup, StepCall, markRefusal, markSup, figuresAt, markRecord, MarkCall, traceChecks, traceRefused, traceOut, TraceCall}
-
--- sound bytes have their length
-pub sound-long : (sup : List ℕ) → sound sup ≡ true → length sup ≡ 736
-unfolding sound
-sound-long sup e = eqb-true _ _ (and-left (eqb (length sup) 736) (ranged (numbersIn sup)) e)
+use Rattle.card.specs.Calls.{Provision, freshRefusal, freshBy, freshSup, FreshCall, refusalBy, callRefusal, callAnswer, callSup, StepCall, markRefusal, markSup, figuresAt, markRecord, MarkCall, traceChecks, traceRefused, traceOut, TraceCall}
 
 -- an answer by value that is one thing where the refusal is 0 and another where it is not has that refusal
 settled : (A : Type 0) (numbered : A → ℕ) (n : ℕ) (x y : A) → numbered x ≡ 0 → numbered y ≡ n → numbered (cond (eqb n 0) x y) ≡ n
 settled A numbered n x y p q = by-cond (λ (a : A). numbered a ≡ n) (eqb n 0) (λ t. p ∙ sym (eqb-true n 0 t)) (λ _. q)
-
--- What the answers by value are, by their refusals.
-
-module _ (s : Supervisor) (overhead : List ℕ) (flags sm pm : ℕ) where
-  pub step-number : stepOf s overhead flags sm pm .refusal ≡ stepRefusal s overhead flags sm pm
-  unfolding stepOf
-  step-number = settled Stepped (λ (a : Stepped). a .refusal) (stepRefusal s overhead flags sm pm) _ _ refl refl
-
-  pub step-taken : stepRefusal s overhead flags sm pm ≡ 0
-      → stepOf s overhead flags sm pm ≡ record { refusal = 0; report = reportOf (standsAfter s overhead flags) sm pm; supervisor = frameOf s overhead flags sm pm }
-  unfolding stepOf
-  step-taken e = rw e
-
-module _ (s : Supervisor) where
-  pub mark-open : ltb (s .seconds) 4294967295 ≡ true → markOf s ≡ record { refusal = 0; figures = figuresAt s; supervisor = nextSecond s }
-  unfolding markOf
-  mark-open e = rw e
-
-  pub mark-full : ltb (s .seconds) 4294967295 ≡ false → markOf s .refusal ≡ 4
-  unfolding markOf
-  mark-full e = rw e
-
-  mark-case : (t : Bool) → ltb (s .seconds) 4294967295 ≡ t → markOf s .refusal ≡ cond t 0 4
-  mark-case true e = ap (λ (m : Marked). m .refusal) (mark-open e)
-  mark-case false e = mark-full e
-
-  pub mark-number : markOf s .refusal ≡ cond (ltb (s .seconds) 4294967295) 0 4
-  mark-number = mark-case (ltb (s .seconds) 4294967295) refl
-
-module _ (s : Supervisor) (layer : ℕ) where
-  pub trace-number : tracedOf s layer .refusal ≡ traceRefusal s layer
-  unfolding tracedOf
-  trace-number = settled Traced (λ (a : Traced). a .refusal) (traceRefusal s layer) _ _ refl refl
-
-  pub trace-open : leb layer 1 ≡ true → layerAt s layer .known ≡ true → traceRefusal s layer ≡ 0
-  unfolding traceRefusal
-  trace-open a k = rw (a, k)
-
-  pub trace-taken : traceRefusal s layer ≡ 0 → tracedOf s layer ≡ record { refusal = 0; trace = layerAt s layer .accepted }
-  unfolding tracedOf
-  trace-taken e = rw e
 
 module _ (p : Provision) where
   abbrev byValue : Provisioned
@@ -107,34 +63,32 @@ module _ (sup overhead : List ℕ) (flags sm pm : ℕ) where
       let z = call-17 b in
       record { answers = rw z; holds = rw z }
 
-  module _ (s : Supervisor) (o : Stepped) (e : s ≡ loadOf sup) (b : sound sup ≡ true) (h : o ≡ stepOf s overhead flags sm pm) where
-    of-loaded : o ≡ stepOf (loadOf sup) overhead flags sm pm
-    of-loaded = h ∙ ap (λ (x : Supervisor). stepOf x overhead flags sm pm) e
+  module _ (c : List ℕ) (n : ℕ) (b : sound sup ≡ true) (e : c ≡ wordsIn 12 64 sup) (h : n ≡ refusalBy (getD c 0 0) overhead flags sm pm) where
+    number-is : callRefusal sup overhead flags sm pm ≡ n
+    unfolding loadOf stepRefusal refusalBy
+    number-is = call-number b ∙ sym (h ∙ ap (λ (w : List ℕ). refusalBy (getD w 0 0) overhead flags sm pm) e)
 
-    number-is : callRefusal sup overhead flags sm pm ≡ o .refusal
-    number-is = call-number b ∙ sym (step-number (loadOf sup) overhead flags sm pm) ∙ ap (λ (x : Stepped). x .refusal) (sym of-loaded)
+    -- an accepted frame has its 64 bytes
+    pub overhead-long : n ≡ 0 → length overhead ≡ 64
+    unfolding refusalBy
+    overhead-long z =
+        let cs : List Check = check 1 (eqb (length overhead) 64) ∷ check 2 (leb flags 3) ∷ check 3 (leb sm 8 && leb pm 8) ∷ check 4 (ltb (getD c 0 0) 400000) ∷ [] in
+        eqb-true (length overhead) 64 (passed 4 cs refl (sym h ∙ z) .0)
 
-    pub step-done : (n : ℕ) (after : List ℕ) → o .refusal ≡ 0 → n ≡ reportWord (o .report) → after ≡ bytesOf (o .supervisor) → StepCall sup overhead flags sm pm n after
+    pub step-done : (w : ℕ) (after : List ℕ) → n ≡ 0 → w ≡ reportWord (reportOf (standsAfter (loadOf sup) overhead flags) sm pm)
+        → after ≡ bytesOf (frameOf (loadOf sup) overhead flags sm pm) → StepCall sup overhead flags sm pm w after
     unfolding callAnswer callSup
-    step-done n after z w v =
+    step-done w after z u v =
         let y : callRefusal sup overhead flags sm pm ≡ 0 = number-is ∙ z in
-        let t = of-loaded ∙ step-taken (loadOf sup) overhead flags sm pm (sym (call-number b) ∙ y) in
-        record {
-          answers = rw y (w ∙ ap (λ (x : Stepped). reportWord (x .report)) t);
-          holds = rw y (v ∙ ap (λ (x : Stepped). bytesOf (x .supervisor)) t);
-        }
+        record { answers = rw y u; holds = rw y v }
 
-    pub step-refused : (n : ℕ) → (o .refusal ≡ 0 → ⊥) → n ≡ o .refusal → StepCall sup overhead flags sm pm n sup
+    pub step-refused : (w : ℕ) → (n ≡ 0 → ⊥) → w ≡ n → StepCall sup overhead flags sm pm w sup
     unfolding callAnswer callSup
-    step-refused n z w =
-        let y = ne-eqb (o .refusal) 0 z in
-        record { answers = rw (number-is, y) w; holds = rw (number-is, y) }
+    step-refused w z u =
+        let y = ne-eqb n 0 z in
+        record { answers = rw (number-is, y) u; holds = rw (number-is, y) }
 
 -- otn_mark
-
-low : (t : Bool) → _≡_ {A = ℕ} (cond t 0 4) 0 → t ≡ true
-low true e = refl
-low false e = absurd (omega arith)
 
 module _ (sup out : List ℕ) where
   pub mark-17 : sound sup ≡ false → markRefusal sup ≡ 17
@@ -151,37 +105,32 @@ module _ (sup out : List ℕ) where
       let z = mark-17 b in
       record { answers = sym z; holds = rw z; fills = rw z }
 
-  module _ (s : Supervisor) (m : Marked) (e : s ≡ loadOf sup) (b : sound sup ≡ true) (h : m ≡ markOf s) where
-    marks-loaded : m ≡ markOf (loadOf sup)
-    marks-loaded = h ∙ ap (λ (x : Supervisor). markOf x) e
+  module _ (w : List ℕ) (h : Head) (b : sound sup ≡ true) (e : w ≡ bytesIn 32 0 sup) (g : h ≡ headIn w) where
+    -- the head that is read is the supervisor's
+    pub k-is : h .k ≡ loadOf sup .settings .k
+    unfolding loadOf
+    k-is = ap (λ (x : Head). x .k) (g ∙ ap headIn e)
 
-    marked-is : markRefusal sup ≡ m .refusal
-    marked-is = mark-by b ∙ sym (mark-number (loadOf sup)) ∙ ap (λ (x : Marked). x .refusal) (sym marks-loaded)
+    pub seconds-is : h .seconds ≡ loadOf sup .seconds
+    unfolding loadOf
+    seconds-is = ap (λ (x : Head). x .seconds) (g ∙ ap headIn e)
 
-    pub mark-done : (after bytes filled : List ℕ) → m .refusal ≡ 0 → after ≡ bytesOf (m .supervisor) → bytes ≡ flat (m .figures)
-        → filled ≡ poured out bytes → MarkCall sup out 0 after filled
+    pub mark-done : (after figures bytes filled : List ℕ) → h .seconds < 4294967295 → figures ≡ figuresAt (loadOf sup) → after ≡ bytesOf (nextSecond (loadOf sup))
+        → bytes ≡ flat figures → filled ≡ poured out bytes → MarkCall sup out 0 after filled
     unfolding markSup markRecord
-    mark-done after bytes filled z v w f =
-        let y : markRefusal sup ≡ 0 = marked-is ∙ z in
-        let t = marks-loaded ∙ mark-open (loadOf sup) (low (ltb (loadOf sup .seconds) 4294967295) (sym (mark-by b) ∙ y)) in
-        record {
-          answers = sym y;
-          holds = rw y (v ∙ ap (λ (x : Marked). bytesOf (x .supervisor)) t);
-          fills = rw y (f ∙ ap (poured out) (w ∙ ap (λ (x : Marked). flat (x .figures)) t));
-        }
+    mark-done after figures bytes filled k f v w' p =
+        let t = lt-ltb (h .seconds) 4294967295 k in
+        let y : markRefusal sup ≡ 0 = mark-by b ∙ rw (← seconds-is, t) in
+        record { answers = sym y; holds = rw y v; fills = rw y (p ∙ ap (poured out) (w' ∙ ap flat f)) }
 
-    pub mark-refused : (n : ℕ) → (m .refusal ≡ 0 → ⊥) → n ≡ m .refusal → MarkCall sup out n sup out
+    pub mark-refused : 4294967295 ≤ h .seconds → MarkCall sup out 4 sup out
     unfolding markSup markRecord
-    mark-refused n z w =
-        let y = ne-eqb (m .refusal) 0 z in
-        record { answers = w ∙ sym marked-is; holds = rw (marked-is, y); fills = rw (marked-is, y) }
+    mark-refused k =
+        let t = le-ltb (h .seconds) 4294967295 k in
+        let y : markRefusal sup ≡ 4 = mark-by b ∙ rw (← seconds-is, t) in
+        record { answers = sym y; holds = rw y; fills = rw y }
 
 -- otn_trace
-
--- a test that is made twice
-again : (a l : Bool) (k x y : ℕ) → cond a (cond l (cond a k x) y) x ≡ cond a (cond l k y) x
-again true l k x y = refl
-again false l k x y = refl
 
 module _ (sup : List ℕ) (layer : ℕ) (out : List ℕ) where
   pub trace-bad : sound sup ≡ false → TraceCall sup layer out 17 out
@@ -190,57 +139,67 @@ module _ (sup : List ℕ) (layer : ℕ) (out : List ℕ) where
       let z = b in
       record { answers = rw z; holds = rw z }
 
-  module _ (s : Supervisor) (t : Traced) (twelve n : ℕ) (e : s ≡ loadOf sup) (b : sound sup ≡ true) (h : t ≡ tracedOf s layer)
-      (i : twelve ≡ cond (eqb (length out) 64) (t .refusal) 12) (j : n ≡ cond (leb layer 1) twelve 11) where
-    traces-loaded : t ≡ tracedOf (loadOf sup) layer
-    traces-loaded = h ∙ ap (λ (x : Supervisor). tracedOf x layer) e
+  module _ (b : sound sup ≡ true) (at : ℕ) (w : List ℕ) (s : State) (thirteen twelve n : ℕ) (a : at ≡ cond (eqb layer 0) 112 400) (e : w ≡ bytesIn 32 (at + 32) sup)
+      (g : s ≡ stateIn w) (i : thirteen ≡ cond (s .known) 0 13) (j : twelve ≡ cond (eqb (length out) 64) thirteen 12) (k : n ≡ cond (leb layer 1) twelve 11) where
+    long : length sup ≡ 688
+    long = sound-long sup b
+
+    -- what stands in a layer's record is what is read from it
+    known-at : (t : Bool) → stateIn (bytesIn 32 (cond t 112 400 + 32) sup) .known ≡ cond t (loadOf sup .layers .section .layer) (loadOf sup .layers .path .layer) .known
+    unfolding loadOf heldIn
+    known-at true = ap (λ (x : List ℕ). stateIn x .known) (sym (bytes-in-bytes 32 32 288 112 sup (omega (arith, long)) (omega arith)))
+    known-at false = ap (λ (x : List ℕ). stateIn x .known) (sym (bytes-in-bytes 32 32 288 400 sup (omega (arith, long)) (omega arith)))
+
+    trace-at : (t : Bool) → bytesIn 64 (cond t 112 400 + 64) sup ≡ cond t (loadOf sup .layers .section .layer) (loadOf sup .layers .path .layer) .accepted
+    unfolding loadOf heldIn
+    trace-at true = sym (bytes-in-bytes 64 64 288 112 sup (omega (arith, long)) (omega arith))
+    trace-at false = sym (bytes-in-bytes 64 64 288 400 sup (omega (arith, long)) (omega arith))
+
+    known-is : s .known ≡ layerAt (loadOf sup) layer .known
+    known-is =
+        ap (λ (x : State). x .known) (g ∙ ap stateIn e)
+        ∙ ap (λ (m : ℕ). stateIn (bytesIn 32 (m + 32) sup) .known) a
+        ∙ known-at (eqb layer 0)
 
     traced-is : n ≡ traceRefused sup layer out
-    unfolding traceRefused traceRefusal
-    traced-is =
-        let k : t .refusal ≡ traceRefusal (loadOf sup) layer = ap (λ (x : Traced). x .refusal) traces-loaded ∙ trace-number (loadOf sup) layer in
-        j ∙ rw (i, k, b) (again (leb layer 1) (eqb (length out) 64) (cond (layerAt (loadOf sup) layer .known) 0 13) 11 12)
+    unfolding traceRefused
+    traced-is = k ∙ rw (j, i, known-is, b)
 
     checks-pass : n ≡ 0 → All (traceChecks sup layer out)
     unfolding traceRefused
     checks-pass z = passed 17 (traceChecks sup layer out) refl (sym traced-is ∙ z)
 
-    -- where nothing is refused the buffer has its length
-    pub trace-room : n ≡ 0 → length out ≡ 64
-    trace-room z = eqb-true _ _ (checks-pass z .1 .1 .0)
-
-    pub trace-done : (m : ℕ) (after : List ℕ) → n ≡ 0 → m ≡ 0 → length (t .trace) ≡ 64 → after ≡ poured out (t .trace) → TraceCall sup layer out m after
+    pub trace-done : (tr after : List ℕ) → n ≡ 0 → tr ≡ bytesIn 64 (at + 64) sup → after ≡ poured out tr → TraceCall sup layer out 0 after
     unfolding traceOut
-    trace-done m after z w g f =
+    trace-done tr after z f p =
         let y : traceRefused sup layer out ≡ 0 = sym traced-is ∙ z in
-        let p = checks-pass z in
-        let u : traceRefusal (loadOf sup) layer ≡ 0 = trace-open (loadOf sup) layer (p .1 .0) (p .1 .1 .1 .0) in
-        let x = traces-loaded ∙ trace-taken (loadOf sup) layer u in
+        let q : length out ≡ 64 = eqb-true _ _ (checks-pass z .1 .1 .0) in
+        let r : length tr ≡ 64 = ap length f ∙ length-in 64 (at + 64) sup in
         record {
-          answers = w ∙ sym y;
-          holds = rw y (f ∙ poured-all out (t .trace) (g ∙ sym (trace-room z)) ∙ ap (λ (q : Traced). q .trace) x);
+          answers = sym y;
+          holds = rw y (p ∙ poured-all out tr (r ∙ sym q) ∙ f ∙ ap (λ (m : ℕ). bytesIn 64 (m + 64) sup) a ∙ trace-at (eqb layer 0));
         }
 
     pub trace-refused : (m : ℕ) → (n ≡ 0 → ⊥) → m ≡ n → TraceCall sup layer out m out
     unfolding traceOut
-    trace-refused m z w =
+    trace-refused m z w' =
         let y = ne-eqb n 0 z in
-        record { answers = w ∙ traced-is; holds = rw (← traced-is, y) }
+        record { answers = w' ∙ traced-is; holds = rw (← traced-is, y) }
 
 -- otn_fresh
 
 module _ (sup : List ℕ) (p : Provision) where
-  pub fresh-17 : (length sup ≡ 736 → ⊥) → FreshCall sup p 17 sup
+  pub fresh-17 : (length sup ≡ 688 → ⊥) → FreshCall sup p 17 sup
   unfolding freshRefusal freshSup
   fresh-17 h =
-      let z = ne-eqb (length sup) 736 h in
+      let z = ne-eqb (length sup) 688 h in
       record { answers = rw z; holds = rw z }
 
-  fresh-by : length sup ≡ 736 → freshRefusal sup p ≡ byNumber p
+  fresh-by : length sup ≡ 688 → freshRefusal sup p ≡ byNumber p
   unfolding freshRefusal settingsRefusal
-  fresh-by h = rw (eq-eqb (length sup) 736 h)
+  fresh-by h = rw (eq-eqb (length sup) 688 h)
 
-  module _ (v : Provisioned) (g : length sup ≡ 736) (h : v ≡ byValue p) where
+  module _ (v : Provisioned) (g : length sup ≡ 688) (h : v ≡ byValue p) where
     fresh-is : freshRefusal sup p ≡ v .refusal
     fresh-is = fresh-by g ∙ sym (provision-number p) ∙ ap (λ (x : Provisioned). x .refusal) (sym h)
 

@@ -24,7 +24,7 @@ use Rattle.image.specs.Image.{bytesOf}
 use Rattle.card.specs.Calls.{Provision, freshChecks, freshRefusal, freshBy, freshSup, callRefusal, callAnswer, callSup, markRefusal, markSup, markRecord, traceRefused, traceOut}
 use Rattle.card.specs.History.{refusedBy, answeredBy, filledBy, bytesBy, bytesAfter, refusedOn, answerOn, fillOn, AllBytes, OnBytes}
 use Rattle.card.proofs.Calls.{call-number, mark-by}
-use Rattle.image.proofs.Ranges.{round-trip}
+use Rattle.image.proofs.Ranges.{same-ranges, round-trip}
 
 again : {A : Type 0} (t : Bool) (x y : A) → cond (eqb (cond t 0 4) 0) x y ≡ cond t x y
 again true x y = refl
@@ -35,24 +35,24 @@ module _ (s : Supervisor) (r : Ranged s) where
   frame-on : (f : Frame) → callRefusal (bytesOf s) (f .overhead) (f .flags) (f .sm) (f .pm) ≡ refusalOf s (frame f)
   unfolding refusalOf
   frame-on f =
-      call-number (bytesOf s) (f .overhead) (f .flags) (f .sm) (f .pm) (round-trip s r .passes)
-      ∙ ap (λ (x : Supervisor). stepRefusal x (f .overhead) (f .flags) (f .sm) (f .pm)) (round-trip s r .back)
+      call-number (bytesOf s) (f .overhead) (f .flags) (f .sm) (f .pm) (same-ranges .tested s r)
+      ∙ ap (λ (x : Supervisor). stepRefusal x (f .overhead) (f .flags) (f .sm) (f .pm)) (round-trip .back s r)
 
   mark-on : markRefusal (bytesOf s) ≡ refusalOf s mark
   unfolding refusalOf
-  mark-on = mark-by (bytesOf s) [] (round-trip s r .passes) ∙ ap (λ (x : Supervisor). cond (ltb (x .seconds) 4294967295) 0 4) (round-trip s r .back)
+  mark-on = mark-by (bytesOf s) [] (same-ranges .tested s r) ∙ ap (λ (x : Supervisor). cond (ltb (x .seconds) 4294967295) 0 4) (round-trip .back s r)
 
   trace-on : (layer : ℕ) (out : List ℕ) → traceRefused (bytesOf s) layer out ≡ refusedOn s (reads layer) out
   unfolding traceRefused refusedOn
-  trace-on layer out = rw (round-trip s r .passes, round-trip s r .back)
+  trace-on layer out = rw (same-ranges .tested s r, round-trip .back s r)
 
   bytes-on : (c : Call) → bytesBy (bytesOf s) c ≡ bytesOf (handedBack s c)
   unfolding bytesBy handedBack callSup markSup stepOf markOf refusalOf
   bytes-on (does (frame f)) =
-      rw (frame-on f, round-trip s r .back)
+      rw (frame-on f, round-trip .back s r)
       (sym (cond-under (λ (z : Stepped). bytesOf (z .supervisor)) (eqb (stepRefusal s (f .overhead) (f .flags) (f .sm) (f .pm)) 0) _ _))
   bytes-on (does mark) =
-      rw (mark-on, round-trip s r .back)
+      rw (mark-on, round-trip .back s r)
       (again (ltb (s .seconds) 4294967295) _ _ ∙ sym (cond-under (λ (z : Marked). bytesOf (z .supervisor)) (ltb (s .seconds) 4294967295) _ _))
   bytes-on (reads layer) = refl
 
@@ -64,15 +64,15 @@ module _ (s : Supervisor) (r : Ranged s) where
 
   answers-on : (c : Call) (out : List ℕ) → answeredBy (bytesOf s) c out ≡ answerOn s c out
   unfolding answeredBy answerOn callAnswer
-  answers-on (does (frame f)) out = rw (frame-on f, round-trip s r .back)
+  answers-on (does (frame f)) out = rw (frame-on f, round-trip .back s r)
   answers-on (does mark) out = mark-on
   answers-on (reads layer) out = trace-on layer out
 
   fills-on : (c : Call) (out : List ℕ) → filledBy (bytesOf s) c out ≡ fillOn s c out
   unfolding filledBy fillOn markRecord traceOut
   fills-on (does (frame f)) out = refl
-  fills-on (does mark) out = rw (mark-on, round-trip s r .back)
-  fills-on (reads layer) out = rw (trace-on layer out, round-trip s r .back)
+  fills-on (does mark) out = rw (mark-on, round-trip .back s r)
+  fills-on (reads layer) out = rw (trace-on layer out, round-trip .back s r)
 
   ranged-frame : (f : Frame) → overheadOf (f .overhead) .mfas ≤ 255 → Ranged (handedBack s (does (frame f)))
   unfolding handedBack stepOf

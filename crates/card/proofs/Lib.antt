@@ -1,4 +1,5 @@
 pub mod Calls
 pub mod Histories
+pub mod Parts
 pub mod Refuted
 pub mod Unique

@@ -1,8 +1,8 @@
 -- What each call from C answers, and what the lent bytes hold after it. "Checked in number order, after 17": each call's tests are a
 -- list, 17 first. "A refusal answers its number and nothing else; supervisor and lent buffers keep their contents." Assumes nothing.
 use mathlib.Core.Path.{_≡_}
-use mathlib.Core.Bool.{cond}
-use mathlib.Core.List.{List, [], _∷_}
+use mathlib.Core.Bool.{cond, _&&_}
+use mathlib.Core.List.{List, [], _∷_, _++_}
 use Prim.Native.Nat.{ℕ, _+_}
 use lib.Dec.{eqb, leb, ltb}
 use lib.ListN.{length}
@@ -16,7 +16,9 @@ use Rattle.supervisor.specs.Supervisor.{freshOf, stepChecks, standsAfter, frame
 use Rattle.settings.specs.declared.Request.{Request}
 use Rattle.supervisor.specs.declared.Supervisor.{Supervisor}
 use Rattle.ranges.specs.Sound.{sound}
-use Rattle.image.specs.Image.{loadOf, bytesOf}
+use Rattle.numbers.specs.Numbers.{headBytes, alignBytes}
+use Rattle.numbers.specs.Held.{heldBytes}
+use Rattle.image.specs.Image.{headOf, countsOf, sectionHeld, pathHeld, loadOf, bytesOf}
 use Rattle.word.specs.Report.{reportWord}
 
 -- by a refusal's number: what is made where it is 0, what is kept where it is not
@@ -43,7 +45,7 @@ provisionBy k sthr sdegm pthr pdegm smode pmode sdis pdis snames pnames = record
 
 -- otn_fresh: 17 where the bytes have a wrong length (they are not looked at), then 5 to 10
 abbrev pub freshChecks : List ℕ → Provision → List Check
-freshChecks sup p = check 17 (eqb (length sup) 736) ∷ settingsChecks (p .k) (p .section) (p .path) (p .snames) (p .pnames)
+freshChecks sup p = check 17 (eqb (length sup) 688) ∷ settingsChecks (p .k) (p .section) (p .path) (p .snames) (p .pnames)
 
 unfoldable pub freshRefusal : List ℕ → Provision → ℕ
 freshRefusal sup p = firstOf (freshChecks sup p)
@@ -62,8 +64,24 @@ pub record FreshCall (sup : List ℕ) (p : Provision) (r : ℕ) (after : List �
 abbrev pub callChecks : List ℕ → List ℕ → ℕ → ℕ → ℕ → List Check
 callChecks sup overhead flags sm pm = check 17 (sound sup) ∷ stepChecks (loadOf sup) overhead flags sm pm
 
+-- the refusals but 17, by the frames that the open second holds
+unfoldable pub refusalBy : ℕ → List ℕ → ℕ → ℕ → ℕ → ℕ
+refusalBy frames overhead flags sm pm =
+    firstOf
+    (check 1 (eqb (length overhead) 64)
+    ∷ check 2 (leb flags 3)
+    ∷ check 3 (leb sm 8 && leb pm 8)
+    ∷ check 4 (ltb frames 400000)
+    ∷ [])
+
 unfoldable pub callRefusal : List ℕ → List ℕ → ℕ → ℕ → ℕ → ℕ
 callRefusal sup overhead flags sm pm = firstOf (callChecks sup overhead flags sm pm)
+
+-- the bytes of a supervisor whose layers are those after a frame, and in which the frame is not yet filed
+abbrev pub unfiled : Supervisor → Supervisor → List ℕ
+unfiled before after =
+    (headBytes (headOf after) ++ alignBytes (after .layers .align))
+    ++ (flat (countsOf (before .second)) ++ (heldBytes (sectionHeld after) ++ (heldBytes (pathHeld after) ++ [])))
 
 unfoldable pub callAnswer : List ℕ → List ℕ → ℕ → ℕ → ℕ → ℕ
 callAnswer sup overhead flags sm pm =

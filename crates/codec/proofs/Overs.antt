@@ -4,9 +4,9 @@ use mathlib.Core.Path.{_≡_, refl, _∙_, ap, sym}
 use mathlib.Core.List.{List, [], _∷_, append-nil}
 use native.Mathlib.Omega.{arith}
 use lib.Dec.{leb, ltb}
-use lib.ListN.{length, take, drop, replicate, drop-of-length-le}
-use lib.Seq.{take-all}
-use borrow.Author.Tests.{le-leb, lt-leb, ltb-true, ltb-false}
+use lib.ListN.{length, getD, take, drop, replicate, length-drop, length-replicate, drop-of-length-le}
+use lib.Seq.{take-all, length-take-le, getD-take, getD-drop}
+use borrow.Author.Tests.{le-leb, lt-leb, leb-true, ltb-true, ltb-false}
 use Rattle.answer.proofs.Cond.{by-cond}
 use Rattle.answer.specs.Over.{over}
 use Rattle.answer.proofs.Overs.{over-nil}
@@ -69,3 +69,18 @@ bytes-room n at l h = rw (le-leb (at + n) (length l) h)
 pub bytes-beyond : (n at : ℕ) (l : List ℕ) → length l < at + n → replicate n 0 ≡ bytesIn n at l
 unfolding bytesIn
 bytes-beyond n at l h = rw (lt-leb (at + n) (length l) h)
+
+-- bytes that are read are as many as are asked for, and each is the byte of its place
+pub length-in : (n at : ℕ) (l : List ℕ) → length (bytesIn n at l) ≡ n
+unfolding bytesIn
+length-in n at l =
+    by-cond (λ (x : List ℕ). length x ≡ n) (leb (at + n) (length l))
+    (λ t. let h = leb-true (at + n) (length l) t in length-take-le n (drop at l) (omega (arith, length-drop at l)))
+    (λ _. length-replicate n 0)
+
+pub byte-in : (n at i j : ℕ) (l : List ℕ) → at + n ≤ length l → i < n → at + i ≡ j → getD (bytesIn n at l) i 0 ≡ getD l j 0
+byte-in n at i j l h k e =
+    ap (λ (x : List ℕ). getD x i 0) (bytes-room n at l h) ∙ getD-take n (drop at l) i 0 k ∙ getD-drop at l i 0 ∙ ap (λ (m : ℕ). getD l m 0) e
+
+pub all-in : (n : ℕ) (l : List ℕ) → length l ≡ n → bytesIn n 0 l ≡ l
+all-in n l e = bytes-room n 0 l (omega arith) ∙ take-all n l (omega arith)

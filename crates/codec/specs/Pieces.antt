@@ -2,7 +2,7 @@
 use mathlib.Core.Path.{_≡_}
 use mathlib.Core.List.{List, [], _∷_, _++_}
 use Prim.Native.Nat.{ℕ, zero, suc, _+_}
-use lib.ListN.{length}
+use lib.ListN.{length, take, drop}
 use Rattle.codec.specs.Over.{laid}
 
 pub record Piece : Type 0 where
@@ -36,3 +36,24 @@ offset (suc i) (p ∷ ps) = p .width + offset i ps
 abbrev pub lays : List ℕ → ℕ → List Piece → List ℕ
 lays d at [] = d
 lays d at (p ∷ ps) = lays (laid d at (p .bytes)) (at + p .width) ps
+
+-- the bytes and the width of piece i, and the pieces with other bytes in its place
+abbrev pub bytesAt : ℕ → List Piece → List ℕ
+bytesAt i [] = []
+bytesAt zero (p ∷ ps) = p .bytes
+bytesAt (suc i) (p ∷ ps) = bytesAt i ps
+
+abbrev pub widthAt : ℕ → List Piece → ℕ
+widthAt i [] = 0
+widthAt zero (p ∷ ps) = p .width
+widthAt (suc i) (p ∷ ps) = widthAt i ps
+
+abbrev pub swapped : ℕ → List ℕ → List Piece → List Piece
+swapped i v [] = []
+swapped zero v (p ∷ ps) = piece (p .width) v ∷ ps
+swapped (suc i) v (p ∷ ps) = p ∷ swapped i v ps
+
+-- a list cut into pieces of given widths
+abbrev pub cut : List ℕ → List ℕ → List Piece
+cut [] d = []
+cut (w ∷ ws) d = piece w (take w d) ∷ cut ws (drop w d)

@@ -25,8 +25,8 @@ fn put_bytes(b: &mut [u8], at: usize, src: &[u8])
     }
 }
 
-// 64 bytes of b from `at`.
-pub fn trace_in(b: &[u8], at: u32) -> [u8; 64]
+// A band of b: 64 bytes from `at`.
+pub fn band_in(b: &[u8], at: u32) -> [u8; 64]
     ensures { λ r. ⌜ r ≡ bytesIn 64 at (now (b .entry)) ⌝ }
 {
     let from = at as usize;
@@ -38,8 +38,8 @@ pub fn trace_in(b: &[u8], at: u32) -> [u8; 64]
     t
 }
 
-// 32 bytes of b from `at`.
-pub fn names_in(b: &[u8], at: u32) -> [u8; 32]
+// A strip of b: 32 bytes from `at`.
+pub fn strip_in(b: &[u8], at: u32) -> [u8; 32]
     ensures { λ r. ⌜ r ≡ bytesIn 32 at (now (b .entry)) ⌝ }
 {
     let from = at as usize;
@@ -62,18 +62,18 @@ pub fn lay_bytes(b: &mut [u8], at: usize, src: &[u8])
     }
 }
 
-// 64 bytes laid over b from `at`.
-pub fn lay_trace(b: &mut [u8], at: u32, trace: [u8; 64])
-    ensures { λ _. ⌜ now (b .exit) ≡ laid (now (b .entry)) at trace ⌝ }
+// A band laid over b from `at`.
+pub fn lay_band(b: &mut [u8], at: u32, band: [u8; 64])
+    ensures { λ _. ⌜ now (b .exit) ≡ laid (now (b .entry)) at band ⌝ }
 {
-    lay_bytes(b, at as usize, &trace);
+    lay_bytes(b, at as usize, &band);
 }
 
-// 32 bytes laid over b from `at`.
-pub fn lay_names(b: &mut [u8], at: u32, names: [u8; 32])
-    ensures { λ _. ⌜ now (b .exit) ≡ laid (now (b .entry)) at names ⌝ }
+// A strip laid over b from `at`.
+pub fn lay_strip(b: &mut [u8], at: u32, strip: [u8; 32])
+    ensures { λ _. ⌜ now (b .exit) ≡ laid (now (b .entry)) at strip ⌝ }
 {
-    lay_bytes(b, at as usize, &names);
+    lay_bytes(b, at as usize, &strip);
 }
 
 fn least(a: usize, b: usize) -> usize

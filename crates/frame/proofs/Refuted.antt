@@ -13,6 +13,7 @@ use Rattle.signal.specs.Signal.{isAis}
 use Rattle.signal.specs.declared.Signal.{Signal}
 use Rattle.signal.specs.declared.Signal.the-variants.{Oci}
 use Rattle.causes.specs.Causes.{ssfOf, timActs}
+use Rattle.causes.specs.declared.Line.{Line}
 use Rattle.frame.specs.Layers.{lineOf, sectionOf, sectionStands, pathOf, pathStands, layersOf, standingOf}
 use Rattle.overhead.specs.declared.Field.{Field}
 use Rattle.alignment.specs.declared.Multi.{Multi}
@@ -22,6 +23,8 @@ use Rattle.frame.specs.declared.Layers.{Layers}
 use Rattle.frame.specs.declared.Advanced.{Advanced}
 use Rattle.frame.proofs.fresh_layers.Kinds as fresh-layers-kinds
 use Rattle.frame.proofs.fresh_layers.Reads as fresh-layers-reads
+use Rattle.frame.proofs.line_of.Kinds as line-of-kinds
+use Rattle.frame.proofs.line_of.Reads as line-of-reads
 use Rattle.frame.proofs.advance.Kinds as advance-kinds
 use Rattle.frame.proofs.advance.Reads as advance-reads
 
@@ -29,6 +32,12 @@ use Rattle.frame.proofs.advance.Reads as advance-reads
 pub fresh-accepted : (κs : Lfts 0) (a : Dens κs fresh-layers-kinds.ps) (x : Layers) (s : AtExit (endedOf 0 fresh-layers-kinds.ps fresh-layers-kinds.r) κs)
     → x .path .layer .known ≡ true → fresh-layers-reads.Post κs a x s → ⊥
 fresh-accepted κs a x s known e = let h : false ≡ true = rw e at known in true≢false (sym h)
+
+-- value 1 is TSF-P, and not OTUk-AIS
+pub flags-swapped : (κs : Lfts 0) (a : Dens κs line-of-kinds.ps) (x : Line) (s : AtExit (endedOf 0 line-of-kinds.ps line-of-kinds.r) κs)
+    → a .1 .1 .0 ≡ 1 → x .ais ≡ true → line-of-reads.Post κs a x s → ⊥
+unfolding lineOf
+flags-swapped κs a x s one ais e = let h : false ≡ true = simp (e, one) at ais in true≢false (sym h)
 
 -- under TSF-P the accepted STAT is forgotten
 pub stat-kept : (κs : Lfts 0) (a : Dens κs advance-kinds.ps) (x : Advanced) (s : AtExit (endedOf 0 advance-kinds.ps advance-kinds.r) κs)

@@ -116,7 +116,7 @@ pub fn fresh_layers() -> Layers
 }
 
 // What stands at the line.
-fn line_of(a: Alignment, n: u32, flags: u8) -> Line
+pub fn line_of(a: Alignment, n: u32, flags: u8) -> Line
     ensures { λ r. ⌜ r ≡ lineOf a n flags ⌝ }
 {
     Line {

@@ -1,6 +1,6 @@
--- Laws of the image: written piece by piece it is whole, and a supervisor in its ranges is read back from it. Assumes nothing.
+-- Laws of the image: its length, and that written piece by piece it is whole. Assumes nothing.
 use mathlib.Core.Path.{_≡_, refl, sym, ap, _∙_}
-use mathlib.Core.List.{List, [], _++_, append-nil}
+use mathlib.Core.List.{List, [], _++_, append-nil, append-assoc}
 use Prim.Native.Nat.{ℕ, _+_}
 use native.Mathlib.Omega.{arith}
 use lib.ListN.{length, take, drop, drop-of-length-le}
@@ -13,81 +13,59 @@ use Rattle.words.proofs.Words.{length-flat}
 use Rattle.codec.proofs.Overs.{over-all}
 use Rattle.codec.proofs.Pieces.{length-joined, lays-over}
 use Rattle.layer.specs.declared.Layer.{Layer}
-use Rattle.settings.specs.declared.Settings.{Settings}
+use Rattle.settings.specs.declared.Options.{Options}
 use Rattle.supervisor.specs.declared.Supervisor.{Supervisor}
-use Rattle.ranges.specs.declared.Numbers.{Numbers}
-use Rattle.numbers.specs.Numbers.{numbersOf}
-use Rattle.image.specs.Image.{loadOf, numberPieces, tracePieces, namePieces, piecesOf, bytesOf, Arrays, Stored}
+use Rattle.numbers.specs.declared.State.{State}
+use Rattle.numbers.specs.Numbers.{headBytes, alignBytes, frontBytes, stateBytes}
+use Rattle.numbers.specs.Held.{Held, heldPieces, heldBytes}
+use Rattle.image.specs.Image.{countsOf, headOf, linePieces, sectionHeld, pathHeld, bytesOf, Sizes, Arrays, tracePieces, heldWith, piecesOf, Stored}
 
--- twelve words are 48 bytes
-words : (w : List ℕ) → length w ≡ 12 → length (flat w) ≡ 48
-words w e = omega (arith, length-flat w)
+-- Each piece has its width.
+
+pub counts-long : (s : Supervisor) → length (flat (countsOf (s .second))) ≡ 48
+counts-long s = length-flat (countsOf (s .second))
+
+pub held-sized : (h : Held) → Sizes h → Sized (heldPieces h)
+held-sized h z = (refl, (refl, (z .accepted, (z .gathered, (z .previous, (z .names, tt))))))
+
+pub held-long : (h : Held) → Sizes h → length (heldBytes h) ≡ 288
+unfolding heldBytes
+held-long h z = length-joined (heldPieces h) (held-sized h z)
 
 pub sized : (s : Supervisor) → Arrays s → Sized (piecesOf s)
 sized s a =
-    let n = numbersOf s in (
-      words (n .settings) refl,
-      (
-        words (n .align) refl,
-        (
-          words (n .section) refl,
-          (
-            words (n .path) refl,
-            (
-              words (n .second) refl,
-              (
-                words (n .heads) refl,
-                (
-                  a .section .accepted,
-                  (
-                    a .section .gathered,
-                    (
-                      a .section .previous,
-                      (a .path .accepted, (a .path .gathered, (a .path .previous, (a .names .section, (a .names .path, tt))))),
-                    ),
-                  ),
-                ),
-              ),
-            ),
-          ),
-        ),
-      ),
-    )
+    let x = a .section in
+    let y = held-sized (pathHeld s) (a .path) in
+    (refl, (refl, (counts-long s, (refl, (refl, (x .accepted, (x .gathered, (x .previous, (x .names, y)))))))))
 
-pub length-bytes : (s : Supervisor) → Arrays s → length (bytesOf s) ≡ 736
-unfolding bytesOf
-length-bytes s a = length-joined (piecesOf s) (sized s a)
+-- the image is its pieces, one after the other
+pub joined-image : (s : Supervisor) → joined (piecesOf s) ≡ bytesOf s
+unfolding bytesOf heldBytes
+joined-image s = simp append-assoc
 
--- read from the bytes under their length
-pub load-all : (b : List ℕ) (s : Supervisor) → length b ≡ 736 → s ≡ loadOf (take 736 b) → s ≡ loadOf b
-load-all b s h e = e ∙ ap loadOf (take-all 736 b (omega arith))
+pub length-bytes : (s : Supervisor) → Arrays s → length (bytesOf s) ≡ 688
+length-bytes s a = ap length (sym (joined-image s)) ∙ length-joined (piecesOf s) (sized s a)
 
-pub stored : (s : Supervisor) (n : Numbers) (b0 b1 b2 b3 b4 : List ℕ) → n ≡ numbersOf s
-    → b1 ≡ lays b0 0 (numberPieces n) → b2 ≡ lays b1 288 (tracePieces (s .layers .section .layer))
-    → b3 ≡ lays b2 480 (tracePieces (s .layers .path .layer)) → b4 ≡ lays b3 672 (namePieces (s .settings)) → b4 ≡ lays b0 0 (piecesOf s)
-stored s n b0 b1 b2 b3 b4 e e1 e2 e3 e4 = e4 ∙ rw (e3, e2, e1, e)
-
--- over 736 bytes the pieces are the image
-pub whole-image : (b : List ℕ) (s : Supervisor) (after : List ℕ) → length b ≡ 736 → Stored b s after → after ≡ bytesOf s
-unfolding bytesOf
+-- over 688 bytes the pieces are the image
+pub whole-image : (b : List ℕ) (s : Supervisor) (after : List ℕ) → length b ≡ 688 → Stored b s after → after ≡ bytesOf s
 whole-image b s after h t =
     let a = t .long in
     let whole : lays b 0 (piecesOf s) ≡ over b 0 (joined (piecesOf s)) = lays-over b 0 (piecesOf s) (sized s a) (omega arith) in
     let long : length (joined (piecesOf s)) ≡ length b = length-joined (piecesOf s) (sized s a) ∙ sym h in
-    t .holds ∙ whole ∙ over-all b (joined (piecesOf s)) long
+    t .holds ∙ whole ∙ over-all b (joined (piecesOf s)) long ∙ joined-image s
 
 -- written under their length, they are all of the bytes
-pub store-all : (b : List ℕ) (s : Supervisor) (x : List ℕ) → length b ≡ 736 → Stored (take 736 b) s x → x ++ drop 736 b ≡ bytesOf s
+pub store-all : (b : List ℕ) (s : Supervisor) (x : List ℕ) → length b ≡ 688 → Stored (take 688 b) s x → x ++ drop 688 b ≡ bytesOf s
 store-all b s x h t =
-    let e : take 736 b ≡ b = take-all 736 b (omega arith) in
-    let k : drop 736 b ≡ [] = drop-of-length-le b {i = 736} (omega arith) in
-    ap (λ (r : List ℕ). x ++ r) k ∙ append-nil x ∙ whole-image (take 736 b) s x (ap length e ∙ h) t
+    let e : take 688 b ≡ b = take-all 688 b (omega arith) in
+    let k : drop 688 b ≡ [] = drop-of-length-le b {i = 688} (omega arith) in
+    ap (λ (r : List ℕ). x ++ r) k ∙ append-nil x ∙ whole-image (take 688 b) s x (ap length e ∙ h) t
 
--- pieces laid one after the other, by the lists between
-pub numbers-laid : (n : Numbers) (b0 b1 b2 b3 b4 b5 b6 : List ℕ) → b1 ≡ laid b0 0 (flat (n .settings)) → b2 ≡ laid b1 48 (flat (n .align))
-    → b3 ≡ laid b2 96 (flat (n .section)) → b4 ≡ laid b3 144 (flat (n .path)) → b5 ≡ laid b4 192 (flat (n .second))
-    → b6 ≡ laid b5 240 (flat (n .heads)) → b6 ≡ lays b0 0 (numberPieces n)
-numbers-laid n b0 b1 b2 b3 b4 b5 b6 e1 e2 e3 e4 e5 e6 = e6 ∙ rw (e5, e4, e3, e2, e1)
+-- Pieces laid one after the other, by the lists between.
+
+pub line-laid : (s : Supervisor) (h a c b0 b1 b2 b3 : List ℕ) → h ≡ headBytes (headOf s) → a ≡ alignBytes (s .layers .align) → c ≡ countsOf (s .second)
+    → b1 ≡ laid b0 0 h → b2 ≡ laid b1 32 a → b3 ≡ laid b2 64 (flat c) → b3 ≡ lays b0 0 (linePieces s)
+line-laid s h a c b0 b1 b2 b3 p q r e1 e2 e3 = e3 ∙ rw (e2, e1, r, q, p)
 
 pub traces-laid : (l : Layer) (at : ℕ) (b0 b1 b2 b3 : List ℕ) → b1 ≡ laid b0 at (l .accepted) → b2 ≡ laid b1 (at + 64) (l .gathered)
     → b3 ≡ laid b2 (at + 128) (l .previous) → b3 ≡ lays b0 at (tracePieces l)
@@ -95,6 +73,15 @@ traces-laid l at b0 b1 b2 b3 e1 e2 e3 =
     let n : at + 64 + 64 ≡ at + 128 = omega arith in
     e3 ∙ rw (e2, e1, n)
 
-pub names-laid : (s : Settings) (b0 b1 b2 : List ℕ) → b1 ≡ laid b0 672 (s .section .names) → b2 ≡ laid b1 704 (s .path .names)
-    → b2 ≡ lays b0 672 (namePieces s)
-names-laid s b0 b1 b2 e1 e2 = e2 ∙ rw e1
+pub held-laid : (p : Options) (l : Layer) (t : State) (at : ℕ) (f g b0 b1 b2 b3 b4 : List ℕ) → f ≡ frontBytes (heldWith p l t .front) → g ≡ stateBytes t
+    → b1 ≡ laid b0 at f → b2 ≡ laid b1 (at + 32) g → b3 ≡ lays b2 (at + 64) (tracePieces l) → b4 ≡ laid b3 (at + 256) (p .names)
+    → b4 ≡ lays b0 at (heldPieces (heldWith p l t))
+held-laid p l t at f g b0 b1 b2 b3 b4 h k e1 e2 e3 e4 =
+    let n : at + 32 + 32 ≡ at + 64 = omega arith in
+    let m : at + 64 + 64 + 64 + 64 ≡ at + 256 = omega arith in
+    e4 ∙ rw (e3, e2, e1, k, h, n, m)
+
+pub stored : (s : Supervisor) (x y : State) (b0 b1 b2 b3 : List ℕ) → x ≡ sectionHeld s .state → y ≡ pathHeld s .state
+    → b1 ≡ lays b0 0 (linePieces s) → b2 ≡ lays b1 112 (heldPieces (heldWith (s .settings .section) (s .layers .section .layer) x))
+    → b3 ≡ lays b2 400 (heldPieces (heldWith (s .settings .path) (s .layers .path .layer) y)) → b3 ≡ lays b0 0 (piecesOf s)
+stored s x y b0 b1 b2 b3 p q e1 e2 e3 = e3 ∙ rw (e2, e1, q, p)

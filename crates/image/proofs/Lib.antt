@@ -1,4 +1,5 @@
 pub mod Bytes
+pub mod Parts
 pub mod Ranges
 pub mod Refuted
 pub mod Unique

@@ -1,298 +1,393 @@
--- The ranges of the words are those of the definitions, and a supervisor in its ranges is read back from its image. Assumes nothing.
-use mathlib.Core.Path.{_≡_, refl, sym, ap, subst, _∙_}
-use mathlib.Core.Bool.{Bool, true, false, _&&_}
-use mathlib.Core.List.{List, [], _∷_, _++_}
+-- The ranges of the bytes are those of the definitions; a supervisor in its ranges is read back from its image, and sound bytes are the
+-- image of what is read from them. Assumes nothing.
+use mathlib.Core.Path.{_≡_, refl, sym, ap, _∙_}
+use mathlib.Core.Bool.{true}
+use mathlib.Core.List.{List, [], _∷_, _++_, append-nil, append-assoc}
 use Prim.Native.Nat.{ℕ, zero, suc, _+_, _%_, _≤_, _<_, zero-le}
-use native.Mathlib.Nat.{mod-eq-of-lt}
 use native.Mathlib.Omega.{arith}
-use lib.ListN.{length, getD, take, drop}
-use lib.Seq.{take-at}
-use borrow.Author.Tests.{eq-eqb}
-use Rattle.answer.proofs.Cond.{and-left, and-right}
-use Rattle.words.specs.Words.{flat, wordsOf, wordsIn}
+use lib.ListN.{length, getD, take, drop, replicate, length-append}
+use lib.Seq.{getD-take, take-at}
+use borrow.Author.Tests.{le-leb, eq-eqb}
 use Rattle.codec.specs.Over.{bytesIn}
-use Rattle.words.specs.Ranges.{inside}
-use Rattle.codec.specs.Pieces.{joined, offset}
-use Rattle.words.proofs.Words.{words-room}
-use Rattle.codec.proofs.Overs.{bytes-room}
-use Rattle.words.proofs.Ranges.{facts, holds, small, words-back}
-use Rattle.codec.proofs.Pieces.{skip}
+use Rattle.codec.specs.Pieces.{Piece, piece, joined, Sized, offset, widthAt, bytesAt}
+use Rattle.codec.proofs.Overs.{bytes-room, length-in}
+use Rattle.codec.proofs.Pieces.{skip, bytes-piece}
+use Rattle.words.specs.Words.{flat, wordAt, wordsOf, wordsIn}
+use Rattle.words.proofs.Words.{word-at-drop, words-room, word-back}
+use Rattle.words.proofs.Ranges.{holds, words-back}
+use Rattle.ranges.specs.Sound.{below, countsRanged, lineRanged, layerRanged, sound}
+use Rattle.ranges.proofs.Below.{below-append, flag-leb, byte-leb}
 use Rattle.alignment.specs.declared.Alignment.{Alignment}
-use Rattle.settings.specs.declared.Settings.{Settings}
-use Rattle.second.specs.declared.Second.{Second}
-use Rattle.frame.specs.declared.SectionState.{SectionState}
-use Rattle.frame.specs.declared.PathState.{PathState}
-use Rattle.supervisor.specs.declared.Supervisor.{Supervisor}
-use Rattle.history.specs.Ranges.{AlignmentIn, SectionIn, PathIn, AllAtMost, SecondIn, Ranged}
-use Rattle.settings.specs.Ranges.{SettingsIn}
-use Rattle.ranges.specs.declared.Numbers.{Numbers}
-use Rattle.answer.specs.Bits.{flag}
-use Rattle.answer.proofs.Bits.{flag-most}
-use Rattle.ranges.specs.Sound.{settingsRanged, alignRanged, sectionRanged, pathRanged, secondRanged, headsRanged, ranged, numbersIn, sound}
 use Rattle.layer.specs.declared.Layer.{Layer}
-use Rattle.numbers.specs.declared.LayerBytes.{LayerBytes}
-use Rattle.numbers.specs.Numbers.{on, settingsWords, alignWords, sectionWords, pathWords, secondWords, ten, headsWords, numbersOf, settingsOf, alignOf, layerOf, sectionOf, pathOf, secondOf}
-use Rattle.image.specs.Image.{loadOf, piecesOf, bytesOf, Traces, Names, Arrays}
+use Rattle.settings.specs.declared.Options.{Options}
+use Rattle.second.specs.declared.Second.{Second}
+use Rattle.supervisor.specs.declared.Supervisor.{Supervisor}
+use Rattle.settings.specs.Ranges.{OptionsIn}
+use Rattle.history.specs.Ranges.{AlignmentIn, LayerIn, SectionIn, PathIn, BlocksIn, AllAtMost, SecondIn, Ranged}
+use Rattle.numbers.specs.declared.Head.{Head}
+use Rattle.numbers.specs.declared.State.{State}
+use Rattle.numbers.specs.Numbers.{headBytes, headIn, alignBytes, alignIn, frontBytes, stateBytes}
+use Rattle.numbers.specs.Held.{Held, heldIn, heldBytes, optionsFrom, layerFrom}
+use Rattle.numbers.proofs.Strips.{both, AlignFits, FrontFits, StateFits, head-back, align-back, from-all, held-back}
+use Rattle.image.specs.Image.{countsOf, headOf, linePieces, sectionHeld, pathHeld, bytesOf, supervisorFrom, loadOf, Arrays, heldWith}
 use Rattle.image.specs.Ranges.{SameRanges, RoundTrip}
-use Rattle.image.proofs.Bytes.{sized, length-bytes}
+use Rattle.image.proofs.Bytes.{counts-long, held-sized, held-long, length-bytes}
+use Rattle.image.proofs.Parts.{bytes-in-bytes, Layered, Sounds, sounds, sound-long, headGreatest, alignGreatest, frontGreatest, sectionState, pathState, first-of, second-of, first-strip, second-strip, head-tops, align-tops, front-tops-at, state-tops-at, section-tops, path-tops, counts-most, cut-three, cut-line, section-bytes, path-bytes, head-held, align-held, counts-held, section-held, path-held, head-stays, align-stays, counts-stay, section-stays, path-stays}
 
-flag-back : (b : Bool) → on (flag b) ≡ b
-flag-back true = refl
-flag-back false = refl
+-- From sound bytes to the definitions' ranges.
 
--- a number below 256 is its own low byte
-byte : (x : ℕ) → x < 256 → x % 256 ≡ x
-byte x h = mod-eq-of-lt h
+-- a word in the first strip of a band, and in the second
+word-front : (x w : List ℕ) (k : ℕ) → x ≡ take 32 w → k + 3 < 32 → wordAt x k ≡ wordAt w k
+word-front x w k e h =
+    ap (λ (y : List ℕ). wordAt y k) e
+    ∙ omega (arith, getD-take 32 w k 0 (omega arith), getD-take 32 w (k + 1) 0 (omega arith), getD-take 32 w (k + 2) 0 (omega arith), getD-take 32 w (k + 3) 0 (omega arith))
 
--- The heads.
+word-rest : (x w : List ℕ) (k : ℕ) → x ≡ drop 32 w → wordAt x k ≡ wordAt w (32 + k)
+word-rest x w k e = ap (λ (y : List ℕ). wordAt y k) e ∙ word-at-drop w 32 k
 
+byte-front : (x w : List ℕ) (k : ℕ) → x ≡ take 32 w → k < 32 → getD x k 0 ≡ getD w k 0
+byte-front x w k e h = ap (λ (y : List ℕ). getD y k 0) e ∙ getD-take 32 w k 0 h
+
+-- a layer's record at a place, whatever its state's table is
+module _ (o : ℕ) (st l : List ℕ) (h : o + 288 ≤ length l) (t : Layered (frontGreatest ++ st) (bytesIn 64 o l)) where
+  options-at : OptionsIn (optionsFrom (heldIn (bytesIn 288 o l)))
+  unfolding heldIn
+  options-at =
+      let x : List ℕ = bytesIn 32 0 (bytesIn 288 o l) in
+      let e : x ≡ take 32 (bytesIn 64 o l) = first-strip o 288 l h (omega arith) in
+      let f = front-tops-at o st l h (t .bytes) in
+      let thr : wordAt x 0 ≡ wordAt (bytesIn 64 o l) 0 = word-front x (bytesIn 64 o l) 0 e (omega arith) in
+      record {
+        thr-least = omega (arith, thr, t .thr-least);
+        thr = omega (arith, thr, t .thr);
+        degm-least = omega (arith, byte-front x (bytesIn 64 o l) 4 e (omega arith), t .degm);
+        degm = f 4;
+        mode = f 5;
+        names = length-in 32 256 (bytesIn 288 o l);
+      }
+
+  layer-at : getD st 2 0 ≡ 3 → getD st 4 0 ≡ 4 → LayerIn (layerFrom (heldIn (bytesIn 288 o l)))
+  unfolding heldIn
+  layer-at p q =
+      let r : List ℕ = bytesIn 288 o l in
+      let f = front-tops-at o st l h (t .bytes) in
+      let g = state-tops-at o st l h (t .bytes) in
+      record {
+        equal = omega (arith, g 2);
+        bdi = omega (arith, g 4);
+        deg = f 8;
+        accepted = length-in 64 64 r;
+        gathered = length-in 64 128 r;
+        previous = length-in 64 192 r;
+      }
+
+  blocks-at : BlocksIn (heldIn (bytesIn 288 o l) .state .blocks)
+  unfolding heldIn
+  blocks-at =
+      let x : List ℕ = bytesIn 32 32 (bytesIn 288 o l) in
+      let e : x ≡ drop 32 (bytesIn 64 o l) = second-strip o 288 l h (omega arith) in
+      record {
+        near = omega (arith, word-rest x (bytesIn 64 o l) 24 e, t .near);
+        far = omega (arith, word-rest x (bytesIn 64 o l) 28 e, t .far);
+      }
+
+untested-of : (l : List ℕ) → sound l ≡ true → Ranged (loadOf l)
+unfolding loadOf heldIn
+untested-of l e =
+    let s : Sounds l = sounds l e in
+    let n : length l ≡ 688 = sound-long l e in
+    let w : List ℕ = bytesIn 64 0 l in
+    let x : List ℕ = bytesIn 32 0 l in
+    let y : List ℕ = bytesIn 32 32 l in
+    let p : x ≡ take 32 w = first-of l (omega arith) in
+    let q : y ≡ drop 32 w = second-of l (omega arith) in
+    let h = head-tops l e in
+    let a = align-tops l e in
+    let u = section-tops l e in
+    let v = path-tops l e in
+    let m = counts-most l e in
+    record {
+      settings = record {
+        k-least = omega (arith, byte-front x w 0 p (omega arith), s .line .k);
+        k = h 0;
+        section = options-at 112 sectionState l (omega arith) (s .section);
+        path = options-at 400 pathState l (omega arith) (s .path);
+      };
+      layers = record {
+        align = record {
+          misses = a 2;
+          total = omega (arith, word-rest y w 20 q, s .line .total);
+          good = omega (arith, word-rest y w 24 q, s .line .good);
+          number = a 4;
+          mismatches = a 5;
+          previous = a 7;
+          lom = omega (arith, word-rest y w 28 q, s .line .lom);
+        };
+        section = record { layer = layer-at 112 sectionState l (omega arith) (s .section) refl refl; iae = u 6; biae = u 8 };
+        path = record { layer = layer-at 400 pathState l (omega arith) (s .path) refl refl; value = v 9; run = v 10; accepted = v 12 };
+      };
+      second = record {
+        frames = m 0;
+        ten = refl;
+        heads = (m 1, (m 2, (m 3, (m 4, (m 5, (m 6, (m 7, (m 8, (m 9, (m 10, tt))))))))));
+        section = blocks-at 112 sectionState l (omega arith) (s .section);
+        path = blocks-at 400 pathState l (omega arith) (s .path);
+      };
+      seconds = omega (arith, h 28, h 29, h 30, h 31);
+    }
+
+-- And back: each strip against its table.
+
+head-tested : (h : Head) → h .k ≤ 3 → below headGreatest (headBytes h) ≡ true
+unfolding below
+head-tested h i = simp (le-leb (h .k) 3 i, byte-leb)
+
+align-tested : (a : Alignment) → AlignmentIn a → below alignGreatest (alignBytes a) ≡ true
+unfolding below
+align-tested a i =
+    let m : a .framing .misses % 256 ≤ 4 = omega arith in
+    let n : a .multi .misses % 256 ≤ 4 = omega arith in
+    simp (
+      flag-leb,
+      byte-leb,
+      le-leb (a .framing .misses % 256) 4 m,
+      le-leb (a .multi .misses % 256) 4 n,
+      le-leb (a .multi .number) 255 (i .number),
+      le-leb (a .multi .previous) 255 (i .previous),
+    )
+
+front-tested : (p : Options) (l : Layer) (t : State) → OptionsIn p → LayerIn l → below frontGreatest (frontBytes (heldWith p l t .front)) ≡ true
+unfolding below
+front-tested p l t i j =
+    let m : p .degm % 256 ≤ 10 = omega arith in
+    let n : l .deg .run % 256 ≤ 9 = omega arith in
+    simp (flag-leb, byte-leb, le-leb (p .degm % 256) 10 m, le-leb (p .mode) 3 (i .mode), le-leb (l .deg .run % 256) 9 n)
+
+section-tested : (s : Supervisor) → SectionIn (s .layers .section) → below sectionState (stateBytes (sectionHeld s .state)) ≡ true
+unfolding below
+section-tested s i =
+    let t = s .layers .section in
+    let a : t .layer .equal % 256 ≤ 3 = omega arith in
+    let b : t .layer .bdi .run % 256 ≤ 4 = omega arith in
+    let c : t .iae .run % 256 ≤ 4 = omega arith in
+    let d : t .biae .run % 256 ≤ 2 = omega arith in
+    simp (
+      flag-leb,
+      byte-leb,
+      le-leb (t .layer .equal % 256) 3 a,
+      le-leb (t .layer .bdi .run % 256) 4 b,
+      le-leb (t .iae .run % 256) 4 c,
+      le-leb (t .biae .run % 256) 2 d,
+    )
+
+path-tested : (s : Supervisor) → PathIn (s .layers .path) → below pathState (stateBytes (pathHeld s .state)) ≡ true
+unfolding below
+path-tested s i =
+    let t = s .layers .path in
+    let a : t .layer .equal % 256 ≤ 3 = omega arith in
+    let b : t .layer .bdi .run % 256 ≤ 4 = omega arith in
+    let c : t .stat .run % 256 ≤ 3 = omega arith in
+    simp (
+      flag-leb,
+      byte-leb,
+      le-leb (t .layer .equal % 256) 3 a,
+      le-leb (t .layer .bdi .run % 256) 4 b,
+      le-leb (t .stat .value) 7 (i .value),
+      le-leb (t .stat .run % 256) 3 c,
+      le-leb (t .stat .accepted) 7 (i .accepted),
+    )
+
+line-tested : (h : Head) (a : Alignment) (c : List ℕ) → 1 ≤ h .k → h .k ≤ 3 → AlignmentIn a → countsRanged c ≡ true
+    → lineRanged (headBytes h ++ alignBytes a) c ≡ true
+unfolding lineRanged
+line-tested h a c k m i t =
+    rw (
+      below-append headGreatest alignGreatest (headBytes h) (alignBytes a) (head-tested h m) (align-tested a i),
+      le-leb 1 (h .k) k,
+      word-back (a .lof .total) (omega arith),
+      le-leb (a .lof .total) 989 (i .total),
+      word-back (a .lof .good) (omega arith),
+      le-leb (a .lof .good) 989 (i .good),
+      word-back (a .lom) (omega arith),
+      le-leb (a .lom) 989 (i .lom),
+    ) t
+
+layer-tested : (p : Options) (l : Layer) (t : State) (st : List ℕ) → OptionsIn p → LayerIn l → BlocksIn (t .blocks) → below st (stateBytes t) ≡ true
+    → layerRanged (frontGreatest ++ st) (frontBytes (heldWith p l t .front) ++ stateBytes t) ≡ true
+unfolding layerRanged
+layer-tested p l t st i j b e =
+    let degm : 2 ≤ p .degm % 256 = omega arith in
+    rw (
+      below-append frontGreatest st (frontBytes (heldWith p l t .front)) (stateBytes t) (front-tested p l t i j) e,
+      le-leb 2 (p .degm % 256) degm,
+      word-back (p .thr) (omega arith),
+      le-leb 1 (p .thr) (i .thr-least),
+      le-leb (p .thr) 329492 (i .thr),
+      word-back (t .blocks .near .0) (omega arith),
+      le-leb (t .blocks .near .0) 400000 (b .near),
+      word-back (t .blocks .far .0) (omega arith),
+      le-leb (t .blocks .far .0) 400000 (b .far),
+    )
+
+-- the counts
 most-at : (n : ℕ) (l : List ℕ) (i : ℕ) → AllAtMost n l → getD l i 0 ≤ n
 most-at n [] i a = zero-le
 most-at n (x ∷ xs) zero a = a .0
 most-at n (x ∷ xs) (suc i) a = most-at n xs i (a .1)
 
-ten-all : (h : List ℕ) → length h ≡ 10 → ten h [] ≡ h
-ten-all (a ∷ b ∷ c ∷ d ∷ e ∷ f ∷ g ∷ h ∷ i ∷ j ∷ []) p = refl
-ten-all [] p = absurd (omega arith)
-ten-all (a ∷ []) p = absurd (omega arith)
-ten-all (a ∷ b ∷ []) p = absurd (omega arith)
-ten-all (a ∷ b ∷ c ∷ []) p = absurd (omega arith)
-ten-all (a ∷ b ∷ c ∷ d ∷ []) p = absurd (omega arith)
-ten-all (a ∷ b ∷ c ∷ d ∷ e ∷ []) p = absurd (omega arith)
-ten-all (a ∷ b ∷ c ∷ d ∷ e ∷ f ∷ []) p = absurd (omega arith)
-ten-all (a ∷ b ∷ c ∷ d ∷ e ∷ f ∷ g ∷ []) p = absurd (omega arith)
-ten-all (a ∷ b ∷ c ∷ d ∷ e ∷ f ∷ g ∷ h ∷ []) p = absurd (omega arith)
-ten-all (a ∷ b ∷ c ∷ d ∷ e ∷ f ∷ g ∷ h ∷ i ∷ []) p = absurd (omega arith)
-ten-all (a ∷ b ∷ c ∷ d ∷ e ∷ f ∷ g ∷ h ∷ i ∷ j ∷ k ∷ l) p = absurd (omega arith)
-
--- From the definitions' ranges to the words' test, segment by segment.
-
-settings-tested : (s : Settings) (seconds : ℕ) → SettingsIn s → seconds ≤ 4294967295 → settingsRanged (settingsWords s seconds) ≡ true
-settings-tested s seconds i h = holds _ _ _ (omega (arith, flag-most (s .section .disabled), flag-most (s .path .disabled)))
-
-align-tested : (a : Alignment) → AlignmentIn a → alignRanged (alignWords a) ≡ true
-align-tested a i =
-    holds _ _ _ (omega (arith, flag-most (a .framing .inframe), flag-most (a .framing .seen), flag-most (a .multi .inmulti), flag-most (a .multi .known)))
-
-section-tested : (s : SectionState) → SectionIn s → sectionRanged (sectionWords s) ≡ true
-section-tested s i =
-    holds _ _ _ (omega (arith, flag-most (s .layer .known), flag-most (s .layer .gathering), flag-most (s .layer .bdi .on), flag-most (s .layer .deg .on), flag-most (s .iae .on), flag-most (s .biae .on)))
-
-path-tested : (s : PathState) → PathIn s → pathRanged (pathWords s) ≡ true
-path-tested s i =
-    holds _ _ _ (omega (arith, flag-most (s .layer .known), flag-most (s .layer .gathering), flag-most (s .layer .bdi .on), flag-most (s .layer .deg .on), flag-most (s .stat .known)))
-
-second-tested : (c : Second) → SecondIn c → secondRanged (secondWords c) ≡ true
-second-tested c i =
-    holds _ _ _ (omega (arith, flag-most (c .section .neards), flag-most (c .section .fards), flag-most (c .path .neards), flag-most (c .path .fards), flag-most (c .iae), flag-most (c .biae)))
-
-heads-tested : (c : Second) → SecondIn c → headsRanged (headsWords c) ≡ true
-heads-tested c i =
+counts-tested : (c : Second) → SecondIn c → countsRanged (countsOf c) ≡ true
+counts-tested c i =
     let m : (k : ℕ) → getD (c .heads) k 0 ≤ 400000 = λ k. most-at 400000 (c .heads) k (i .heads) in
     holds _ _ _ (omega (arith, m 0, m 1, m 2, m 3, m 4, m 5, m 6, m 7, m 8, m 9))
 
-arrays-of : (s : Supervisor) → Ranged s → Arrays s
+counts-bytes : (c : Second) → below (replicate 48 255) (flat (countsOf c)) ≡ true
+unfolding below flat
+counts-bytes c = simp byte-leb
+
+-- The image in its five parts.
+
+pub arrays-of : (s : Supervisor) → Ranged s → Arrays s
 arrays-of s r = record {
-  section = record { accepted = r .layers .section .layer .accepted; gathered = r .layers .section .layer .gathered; previous = r .layers .section .layer .previous };
-  path = record { accepted = r .layers .path .layer .accepted; gathered = r .layers .path .layer .gathered; previous = r .layers .path .layer .previous };
-  names = record { section = r .settings .section .names; path = r .settings .path .names };
+  section = record {
+    accepted = r .layers .section .layer .accepted;
+    gathered = r .layers .section .layer .gathered;
+    previous = r .layers .section .layer .previous;
+    names = r .settings .section .names;
+  };
+  path = record {
+    accepted = r .layers .path .layer .accepted;
+    gathered = r .layers .path .layer .gathered;
+    previous = r .layers .path .layer .previous;
+    names = r .settings .path .names;
+  };
 }
 
-tested-of : (s : Supervisor) → Ranged s → ranged (numbersOf s) ≡ true
-unfolding ranged
-tested-of s r =
-    rw (
-      settings-tested (s .settings) (s .seconds) (r .settings) (r .seconds),
-      align-tested (s .layers .align) (r .layers .align),
-      section-tested (s .layers .section) (r .layers .section),
-      path-tested (s .layers .path) (r .layers .path),
-      second-tested (s .second) (r .second),
-      heads-tested (s .second) (r .second),
-    )
+abbrev partsOf : Supervisor → List Piece
+partsOf s =
+    piece 32 (headBytes (headOf s)) ∷ piece 32 (alignBytes (s .layers .align)) ∷ piece 48 (flat (countsOf (s .second)))
+    ∷ piece 288 (heldBytes (sectionHeld s)) ∷ piece 288 (heldBytes (pathHeld s)) ∷ []
 
--- And back.
+joined-parts : (s : Supervisor) → joined (partsOf s) ≡ bytesOf s
+unfolding bytesOf
+joined-parts s = simp append-nil
 
-pub record Six (n : Numbers) : Type 0 where
-  pub settings : settingsRanged (n .settings) ≡ true
-  pub align : alignRanged (n .align) ≡ true
-  pub section : sectionRanged (n .section) ≡ true
-  pub path : pathRanged (n .path) ≡ true
-  pub second : secondRanged (n .second) ≡ true
-  pub heads : headsRanged (n .heads) ≡ true
+band-of : (a b r : List ℕ) → length a ≡ 32 → length b ≡ 32 → bytesIn 64 0 (a ++ (b ++ r)) ≡ a ++ b
+band-of a b r h k =
+    let n : length (a ++ b) ≡ 64 = simp length-append (omega arith) in
+    ap (bytesIn 64 0) (sym (append-assoc a b r))
+    ∙ bytes-room 64 0 ((a ++ b) ++ r) (simp (length-append (a ++ b) r) (omega arith))
+    ∙ take-at (a ++ b) r 64 n
 
-pub six : (n : Numbers) → ranged n ≡ true → Six n
-unfolding ranged
-six n e =
-    let a = settingsRanged (n .settings) in
-    let b = alignRanged (n .align) in
-    let c = sectionRanged (n .section) in
-    let d = pathRanged (n .path) in
-    let f = secondRanged (n .second) in
-    let g = headsRanged (n .heads) in
-    let e5 = and-left (a && b && c && d && f) g e in
-    let e4 = and-left (a && b && c && d) f e5 in
-    let e3 = and-left (a && b && c) d e4 in
-    let e2 = and-left (a && b) c e3 in
-    record {
-      settings = and-left a b e2;
-      align = and-right a b e2;
-      section = and-right (a && b) c e3;
-      path = and-right (a && b && c) d e4;
-      second = and-right (a && b && c && d) f e5;
-      heads = and-right (a && b && c && d && f) g e;
-    }
+from-parts : {h k : Head} {a b : Alignment} {c d : List ℕ} {x y z w : Held} → h ≡ k → a ≡ b → c ≡ d → x ≡ y → z ≡ w
+    → supervisorFrom h a c x z ≡ supervisorFrom k b d y w
+from-parts p q r t u = rw (p, q, r, t, u)
 
-settings-untested : (s : Settings) (seconds : ℕ) → settingsRanged (settingsWords s seconds) ≡ true → Names s → SettingsIn s
-settings-untested s seconds e n =
-    let f = facts _ _ _ e in
-    record {
-      k-least = omega arith;
-      k = omega arith;
-      section = record { thr-least = omega arith; thr = omega arith; degm-least = omega arith; degm = omega arith; mode = omega arith; names = n .section };
-      path = record { thr-least = omega arith; thr = omega arith; degm-least = omega arith; degm = omega arith; mode = omega arith; names = n .path };
-    }
+module _ (s : Supervisor) (r : Ranged s) where
+  arrays : Arrays s
+  arrays = arrays-of s r
 
-seconds-untested : (s : Settings) (seconds : ℕ) → settingsRanged (settingsWords s seconds) ≡ true → seconds ≤ 4294967295
-seconds-untested s seconds e = let f = facts _ _ _ e in omega arith
+  long : length (bytesOf s) ≡ 688
+  long = length-bytes s arrays
 
-align-untested : (a : Alignment) → alignRanged (alignWords a) ≡ true → AlignmentIn a
-align-untested a e =
-    let f = facts _ _ _ e in
-    record { misses = omega arith; total = omega arith; good = omega arith; number = omega arith; mismatches = omega arith; previous = omega arith; lom = omega arith }
+  parts-sized : Sized (partsOf s)
+  parts-sized = (refl, (refl, (counts-long s, (held-long (sectionHeld s) (arrays .section), (held-long (pathHeld s) (arrays .path), tt)))))
 
-section-untested : (s : SectionState) → sectionRanged (sectionWords s) ≡ true → Traces (s .layer) → SectionIn s
-section-untested s e a =
-    let f = facts _ _ _ e in
-    record {
-      layer = record { equal = omega arith; bdi = omega arith; deg = omega arith; accepted = a .accepted; gathered = a .gathered; previous = a .previous };
-      iae = omega arith;
-      biae = omega arith;
-    }
+  part-at : (i : ℕ) → bytesIn (widthAt i (partsOf s)) (offset i (partsOf s)) (bytesOf s) ≡ bytesAt i (partsOf s)
+  part-at i = ap (bytesIn (widthAt i (partsOf s)) (offset i (partsOf s))) (sym (joined-parts s)) ∙ bytes-piece i (partsOf s) parts-sized
 
-path-untested : (s : PathState) → pathRanged (pathWords s) ≡ true → Traces (s .layer) → PathIn s
-path-untested s e a =
-    let f = facts _ _ _ e in
-    record {
-      layer = record { equal = omega arith; bdi = omega arith; deg = omega arith; accepted = a .accepted; gathered = a .gathered; previous = a .previous };
-      value = omega arith;
-      run = omega arith;
-      accepted = omega arith;
-    }
+  counts-at : wordsIn 12 64 (bytesOf s) ≡ countsOf (s .second)
+  counts-at =
+      let rest : List ℕ = heldBytes (sectionHeld s) ++ (heldBytes (pathHeld s) ++ []) in
+      words-room 12 64 (bytesOf s) (omega (arith, long))
+      ∙ ap (λ (b : List ℕ). wordsOf 12 (drop 64 b)) (sym (joined-parts s))
+      ∙ ap (wordsOf 12) (skip 2 (partsOf s) parts-sized)
+      ∙ words-back _ _ (countsOf (s .second)) rest refl (counts-tested (s .second) (r .second))
 
-second-untested : (c : Second) → secondRanged (secondWords c) ≡ true → headsRanged (headsWords c) ≡ true → length (c .heads) ≡ 10 → SecondIn c
-second-untested c e h l =
-    let f = facts _ _ _ e in
-    let g = facts _ _ _ h in
-    let most : AllAtMost 400000 (ten (c .heads) []) = omega arith in
-    record {
-      frames = omega arith;
-      ten = l;
-      heads = subst (λ (x : List ℕ). AllAtMost 400000 x) (ten-all (c .heads) l) most;
-      section = record { near = omega arith; far = omega arith };
-      path = record { near = omega arith; far = omega arith };
-    }
+  -- a layer's band, and the line's
+  layer-band : (o : ℕ) (h : Held) → o + 288 ≤ 688 → bytesIn 288 o (bytesOf s) ≡ heldBytes h
+      → bytesIn 64 o (bytesOf s) ≡ frontBytes (h .front) ++ stateBytes (h .state)
+  unfolding heldBytes
+  layer-band o h k e =
+      let z : o ≡ o + 0 = omega arith in
+      let rest : List ℕ = h .accepted ++ (h .gathered ++ (h .previous ++ (h .names ++ []))) in
+      ap (λ (i : ℕ). bytesIn 64 i (bytesOf s)) z
+      ∙ sym (bytes-in-bytes 64 0 288 o (bytesOf s) (omega (arith, long)) (omega arith))
+      ∙ ap (bytesIn 64 0) e
+      ∙ band-of (frontBytes (h .front)) (stateBytes (h .state)) rest refl refl
 
-untested-of : (s : Supervisor) → ranged (numbersOf s) ≡ true → Arrays s → length (s .second .heads) ≡ 10 → Ranged s
-untested-of s e a l =
-    let x = six (numbersOf s) e in
-    record {
-      settings = settings-untested (s .settings) (s .seconds) (x .settings) (a .names);
-      layers = record {
-        align = align-untested (s .layers .align) (x .align);
-        section = section-untested (s .layers .section) (x .section) (a .section);
-        path = path-untested (s .layers .path) (x .path) (a .path);
-      };
-      second = second-untested (s .second) (x .second) (x .heads) l;
-      seconds = seconds-untested (s .settings) (s .seconds) (x .settings);
-    }
+  line-band : bytesIn 64 0 (bytesOf s) ≡ headBytes (headOf s) ++ alignBytes (s .layers .align)
+  line-band =
+      let rest : List ℕ = flat (countsOf (s .second)) ++ (heldBytes (sectionHeld s) ++ (heldBytes (pathHeld s) ++ [])) in
+      ap (bytesIn 64 0) (sym (joined-parts s)) ∙ band-of (headBytes (headOf s)) (alignBytes (s .layers .align)) rest refl refl
 
-pub same-ranges : (s : Supervisor) → SameRanges s
-same-ranges s = record { tested = tested-of s; arrays = arrays-of s; untested = untested-of s }
-
--- The round trip: a segment and an array at their places.
-
-module _ (s : Supervisor) (a : Arrays s) where
-  words-at : (i : ℕ) (lo hi w : List ℕ) → joined (drop i (piecesOf s)) ≡ flat w ++ joined (drop (i + 1) (piecesOf s)) → length w ≡ 12
-      → small hi ≡ true → inside lo hi w ≡ true → offset i (piecesOf s) + 48 ≤ 736 → wordsIn 12 (offset i (piecesOf s)) (bytesOf s) ≡ w
-  unfolding bytesOf
-  words-at i lo hi w p l m e h =
-      words-room 12 (offset i (piecesOf s)) (bytesOf s) (omega (arith, length-bytes s a))
-      ∙ ap (wordsOf 12) (skip i (piecesOf s) (sized s a) ∙ p)
-      ∙ ap (λ (n : ℕ). wordsOf n (flat w ++ joined (drop (i + 1) (piecesOf s)))) (sym l)
-      ∙ words-back lo hi w (joined (drop (i + 1) (piecesOf s))) m e
-
-  array-at : (i n : ℕ) (x : List ℕ) → joined (drop i (piecesOf s)) ≡ x ++ joined (drop (i + 1) (piecesOf s)) → length x ≡ n
-      → offset i (piecesOf s) + n ≤ 736 → bytesIn n (offset i (piecesOf s)) (bytesOf s) ≡ x
-  unfolding bytesOf
-  array-at i n x p l h =
-      bytes-room n (offset i (piecesOf s)) (bytesOf s) (omega (arith, length-bytes s a))
-      ∙ ap (take n) (skip i (piecesOf s) (sized s a) ∙ p)
-      ∙ take-at x (joined (drop (i + 1) (piecesOf s))) n l
-
-  numbers-back : ranged (numbersOf s) ≡ true → numbersIn (bytesOf s) ≡ numbersOf s
-  unfolding numbersIn
-  numbers-back e =
-      let x = six (numbersOf s) e in
+  tested-of : sound (bytesOf s) ≡ true
+  unfolding sound
+  tested-of =
       rw (
-        words-at 0 _ _ (settingsWords (s .settings) (s .seconds)) refl refl refl (x .settings) (omega arith),
-        words-at 1 _ _ (alignWords (s .layers .align)) refl refl refl (x .align) (omega arith),
-        words-at 2 _ _ (sectionWords (s .layers .section)) refl refl refl (x .section) (omega arith),
-        words-at 3 _ _ (pathWords (s .layers .path)) refl refl refl (x .path) (omega arith),
-        words-at 4 _ _ (secondWords (s .second)) refl refl refl (x .second) (omega arith),
-        words-at 5 _ _ (headsWords (s .second)) refl refl refl (x .heads) (omega arith),
+        eq-eqb (length (bytesOf s)) 688 long,
+        part-at 2,
+        counts-bytes (s .second),
+        line-band,
+        counts-at,
+        line-tested (headOf s) (s .layers .align) (countsOf (s .second)) (r .settings .k-least) (r .settings .k) (r .layers .align) (counts-tested (s .second) (r .second)),
+        layer-band 112 (sectionHeld s) (omega arith) (part-at 3),
+        layer-tested (s .settings .section) (s .layers .section .layer) (sectionHeld s .state) sectionState (r .settings .section) (r .layers .section .layer) (r .second .section) (section-tested s (r .layers .section)),
+        layer-band 400 (pathHeld s) (omega arith) (part-at 4),
+        layer-tested (s .settings .path) (s .layers .path .layer) (pathHeld s .state) pathState (r .settings .path) (r .layers .path .layer) (r .second .path) (path-tested s (r .layers .path)),
       )
 
--- Each part from its words.
+  -- Read back.
 
-settings-back : (s : Settings) (seconds : ℕ) → SettingsIn s → settingsOf (settingsWords s seconds) (s .section .names) (s .path .names) ≡ s
-settings-back s seconds i =
-    simp (flag-back, byte (s .k) (omega arith), byte (s .section .mode) (omega arith), byte (s .path .mode) (omega arith))
+  section-back : heldIn (bytesIn 288 112 (bytesOf s)) ≡ sectionHeld s
+  section-back =
+      let f : FrontFits (sectionHeld s .front) = record { thr = omega arith; degm = omega arith; deg = omega arith } in
+      let t : StateFits (sectionHeld s .state) = record {
+        equal = omega arith;
+        bdi = omega arith;
+        iae = omega arith;
+        biae = omega arith;
+        stat = omega arith;
+        near = omega arith;
+        far = omega arith;
+      } in
+      ap heldIn (part-at 3) ∙ held-back (sectionHeld s) f t (held-sized (sectionHeld s) (arrays .section))
 
-align-back : (a : Alignment) → AlignmentIn a → alignOf (alignWords a) ≡ a
-align-back a i = simp (flag-back, byte (a .multi .number) (omega arith), byte (a .multi .previous) (omega arith))
+  path-back : heldIn (bytesIn 288 400 (bytesOf s)) ≡ pathHeld s
+  path-back =
+      let f : FrontFits (pathHeld s .front) = record { thr = omega arith; degm = omega arith; deg = omega arith } in
+      let t : StateFits (pathHeld s .state) = record {
+        equal = omega arith;
+        bdi = omega arith;
+        iae = omega arith;
+        biae = omega arith;
+        stat = omega arith;
+        near = omega arith;
+        far = omega arith;
+      } in
+      ap heldIn (part-at 4) ∙ held-back (pathHeld s) f t (held-sized (pathHeld s) (arrays .path))
 
--- a layer's traces
-abbrev tracesOf : Layer → LayerBytes
-tracesOf l = record { accepted = l .accepted; gathered = l .gathered; previous = l .previous }
+  back-of : loadOf (bytesOf s) ≡ s
+  unfolding loadOf
+  back-of =
+      let a : AlignFits (s .layers .align) = record { misses = omega arith; mismatches = omega arith; total = omega arith; good = omega arith; lom = omega arith } in
+      from-parts (ap headIn (part-at 0) ∙ head-back (headOf s) (omega arith)) (ap alignIn (part-at 1) ∙ align-back (s .layers .align) a) counts-at section-back path-back
+      ∙ rw (from-all 10 (s .second .heads) (r .second .ten))
 
-section-back : (s : SectionState)
-    → sectionOf (sectionWords s) (layerOf (sectionWords s) (tracesOf (s .layer))) ≡ s
-section-back s = simp flag-back
+-- Sound bytes stay.
 
-path-back : (s : PathState) → PathIn s
-    → pathOf (pathWords s) (layerOf (pathWords s) (tracesOf (s .layer))) ≡ s
-path-back s i = simp (flag-back, byte (s .stat .value) (omega arith), byte (s .stat .accepted) (omega arith))
+stays-of : (l : List ℕ) → sound l ≡ true → bytesOf (loadOf l) ≡ l
+unfolding bytesOf
+stays-of l e =
+    let n : length l ≡ 688 = sound-long l e in
+    let line : joined (linePieces (loadOf l)) ≡ take 32 l ++ (take 32 (drop 32 l) ++ (take 48 (drop 64 l) ++ [])) =
+    both (ap headBytes (head-held l) ∙ sym (head-stays l e))
+    (both (ap alignBytes (align-held l) ∙ sym (align-stays l e)) (both (ap flat (counts-held l e) ∙ sym (counts-stay l e)) refl)) in
+    both (line ∙ ap (λ (x : List ℕ). take 32 l ++ (take 32 (drop 32 l) ++ x)) (append-nil (take 48 (drop 64 l))) ∙ sym (cut-line l n))
+    (both (ap heldBytes (section-held l e) ∙ section-stays l e ∙ section-bytes l n) (ap heldBytes (path-held l e) ∙ path-stays l e ∙ path-bytes l n))
+    ∙ sym (cut-three l n)
 
-second-back : (c : Second) → length (c .heads) ≡ 10 → secondOf (secondWords c) (headsWords c) ≡ c
-second-back c l = simp (flag-back, ten-all (c .heads) l)
+pub same-ranges : SameRanges
+same-ranges = record { tested = tested-of; untested = untested-of }
 
-load-back : (s : Supervisor) → Ranged s → loadOf (bytesOf s) ≡ s
-unfolding loadOf
-load-back s r =
-    let a = arrays-of s r in
-    rw (
-      numbers-back s a (tested-of s r),
-      array-at s a 6 64 (s .layers .section .layer .accepted) refl (a .section .accepted) (omega arith),
-      array-at s a 7 64 (s .layers .section .layer .gathered) refl (a .section .gathered) (omega arith),
-      array-at s a 8 64 (s .layers .section .layer .previous) refl (a .section .previous) (omega arith),
-      array-at s a 9 64 (s .layers .path .layer .accepted) refl (a .path .accepted) (omega arith),
-      array-at s a 10 64 (s .layers .path .layer .gathered) refl (a .path .gathered) (omega arith),
-      array-at s a 11 64 (s .layers .path .layer .previous) refl (a .path .previous) (omega arith),
-      array-at s a 12 32 (s .settings .section .names) refl (a .names .section) (omega arith),
-      array-at s a 13 32 (s .settings .path .names) refl (a .names .path) (omega arith),
-      settings-back (s .settings) (s .seconds) (r .settings),
-      align-back (s .layers .align) (r .layers .align),
-      section-back (s .layers .section),
-      path-back (s .layers .path) (r .layers .path),
-      second-back (s .second) (r .second .ten),
-    )
-
-sound-bytes : (s : Supervisor) → Ranged s → sound (bytesOf s) ≡ true
-unfolding sound
-sound-bytes s r =
-    let a = arrays-of s r in
-    rw (eq-eqb (length (bytesOf s)) 736 (length-bytes s a), numbers-back s a (tested-of s r)) (tested-of s r)
-
--- the round trip for every supervisor in its ranges
-pub round-trip : (s : Supervisor) → Ranged s → RoundTrip s
-round-trip s r = record { long = length-bytes s (arrays-of s r); passes = sound-bytes s r; back = load-back s r }
+pub round-trip : RoundTrip
+round-trip = record { long = long; back = back-of; stays = stays-of }

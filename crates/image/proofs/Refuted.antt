@@ -1,4 +1,4 @@
--- Wrong answers that the contracts shut out, each for one input. Assumes nothing.
+-- Wrong answers that the contracts shut out. Assumes nothing.
 use mathlib.Core.Path.{_≡_, refl, ap, sym, _∙_}
 use mathlib.Core.List.{List, [], _∷_}
 use Prim.Native.Nat.{ℕ}
@@ -7,27 +7,16 @@ use contract.Lifetimes.{Lfts}
 use borrow.Fn.Kinds.{Dens, endedOf}
 use denote.Triple.Clauses.{AtExit}
 use denote.Ref.{now}
-use lib.ListN.{length}
-use Rattle.words.specs.Words.{flat, wordsIn}
+use lib.ListN.{length, getD}
+use Rattle.words.specs.Words.{flat}
 use Rattle.codec.specs.Over.{laid}
 use Rattle.codec.specs.Pieces.{lays}
 use Rattle.supervisor.specs.declared.Supervisor.{Supervisor}
 use Rattle.supervisor.specs.Supervisor.{blankSupervisor}
-use Rattle.ranges.specs.Sound.{numbersIn}
-use Rattle.image.specs.Image.{loadOf, piecesOf}
-use Rattle.image.proofs.supervisor_in.Kinds as supervisor-in-kinds
-use Rattle.image.proofs.supervisor_in.Reads as supervisor-in-reads
+use Rattle.image.specs.Image.{bytesOf, piecesOf}
+use Rattle.image.proofs.Bytes.{whole-image}
 use Rattle.image.proofs.lay.Kinds as lay-kinds
 use Rattle.image.proofs.lay.Reads as lay-reads
-
--- supervisor_in: beyond the bytes every number is 0
-pub one-beyond : (κs : Lfts 1) (a : Dens κs supervisor-in-kinds.ps) (x : Supervisor) (s : AtExit (endedOf 1 supervisor-in-kinds.ps supervisor-in-kinds.r) κs)
-    → now (a .0) ≡ [] → x .seconds ≡ 1 → supervisor-in-reads.Post κs a x s → ⊥
-unfolding loadOf numbersIn wordsIn
-one-beyond κs a x s b n e =
-    let h : x ≡ loadOf [] = rw b at e in
-    let z : _≡_ {A = ℕ} 1 0 = sym n ∙ ap (λ (y : Supervisor). y .seconds) h in
-    omega arith
 
 -- lay: nothing is laid beyond the bytes
 none-laid : lays [] 0 (piecesOf blankSupervisor) ≡ []
@@ -40,4 +29,16 @@ laid-beyond κs a s b p end e =
     let d : lays (now (a .0)) 0 (piecesOf (a .1 .0)) ≡ lays [] 0 (piecesOf (a .1 .0)) = ap (λ (l : List ℕ). lays l 0 (piecesOf (a .1 .0))) b in
     let h : lays [] 0 (piecesOf (a .1 .0)) ≡ lays [] 0 (piecesOf blankSupervisor) = ap (λ (y : Supervisor). lays [] 0 (piecesOf y)) p in
     let z : _≡_ {A = ℕ} 1 0 = ap length (sym end ∙ e .holds ∙ d ∙ h ∙ none-laid) in
+    omega arith
+
+-- over 688 bytes: the first is k, whatever stood there
+first-byte : (s : Supervisor) → getD (bytesOf s) 0 0 ≡ s .settings .k
+unfolding bytesOf
+first-byte s = refl
+
+pub k-kept : (κs : Lfts 1) (a : Dens κs lay-kinds.ps) (s : AtExit (endedOf 1 lay-kinds.ps lay-kinds.r) κs)
+    → length (now (a .0)) ≡ 688 → getD (now (a .0)) 0 0 ≡ 0 → a .1 .0 .settings .k ≡ 3 → getD (now (s .0)) 0 0 ≡ 0 → lay-reads.Post κs a tt s → ⊥
+k-kept κs a s n b k end e =
+    let h : now (s .0) ≡ bytesOf (a .1 .0) = whole-image (now (a .0)) (a .1 .0) (now (s .0)) n e in
+    let z : _≡_ {A = ℕ} 0 3 = sym end ∙ ap (λ (l : List ℕ). getD l 0 0) h ∙ first-byte (a .1 .0) ∙ k in
     omega arith

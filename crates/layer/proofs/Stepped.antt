@@ -1,48 +1,16 @@
 -- A layer's step in parts is the step of the definitions. Assumes nothing.
 use Prim.Native.Nat.{ℕ, _%_}
 use mathlib.Core.Path.{_≡_, refl, sym, ap}
-use mathlib.Core.Bool.{Bool, true, false, cond, _&&_, _||_, not, true≢false}
-use mathlib.Core.List.{List}
+use mathlib.Core.Bool.{Bool, true, false, _||_, true≢false}
 use lib.Dec.{eqb}
 use Rattle.filter.specs.declared.Filter.{Filter}
 use Rattle.layer.specs.declared.Layer.{Layer}
 use Rattle.layer.specs.Layer.{withTrace, withBdi, gatheredAt, equalOf, closedOf, byteOf, traceOf}
-use Rattle.layer.specs.Steps.{putIn, equalAfter}
+use Rattle.layer.specs.Steps.{parts}
 
 or-right : (x y : Bool) → (x || y) ≡ false → y ≡ false
 or-right true y h = absurd (true≢false h)
 or-right false y h = h
-
-module _ (l : Layer) (forget inmulti : Bool) (number tti : ℕ) (held : Filter) where
-  abbrev goes : Bool
-  goes = not forget && inmulti
-
-  abbrev takes : Bool
-  takes = goes && (eqb (number % 64) 0 || l .gathering)
-
-  abbrev closes : Bool
-  closes = takes && eqb (number % 64) 63
-
-  abbrev put : List ℕ
-  put = putIn (l .gathered) takes number tti
-
-  abbrev equal : ℕ
-  equal = equalAfter closes put (l .previous) (l .equal)
-
-  abbrev accepts : Bool
-  accepts = closes && eqb equal 3
-
-  abbrev pub parts : Layer
-  parts = record {
-    accepted = cond accepts put (l .accepted);
-    gathered = put;
-    previous = cond closes put (l .previous);
-    known = not forget && (accepts || l .known);
-    gathering = takes && not closes;
-    equal = cond goes equal 0;
-    bdi = held;
-    deg = l .deg;
-  }
 
 by-cases : (l : Layer) (forget inmulti t e q : Bool) (number tti : ℕ) (held : Filter) → (eqb (number % 64) 0 || l .gathering) ≡ t
     → eqb (number % 64) 63 ≡ e → eqb (equalOf (gatheredAt l (number % 64) tti)) 3 ≡ q

@@ -1,2 +1,3 @@
 pub mod Refuted
+pub mod Strips
 pub mod Unique

@@ -1,340 +1,309 @@
-// The numbers of a supervisor as words, in six segments of twelve, and a supervisor from them and from its arrays.
+// The numbers of a supervisor as strips of 32 bytes: the line's head, alignment, and of each layer its front and its state. Small numbers
+// are bytes, counts are words. docs/SUPERVISOR.md has the table.
 use alignment::Alignment;
 use alignment::Framing;
 use alignment::Lof;
 use alignment::Multi;
 use filter::Filter;
 use filter::Stat;
-use frame::Layers;
-use frame::PathState;
-use frame::SectionState;
-use layer::Layer;
-use ranges::Numbers;
 use second::Blocks;
 use second::Far;
-use second::Frames;
 use second::Near;
-use second::Second;
-use settings::Options;
-use settings::Settings;
-use supervisor::Supervisor;
+use words::word_of;
 ghost use mathlib.Core.Path.{_≡_};
-ghost use Rattle.numbers.specs.Numbers.{settingsWords, alignWords, sectionWords, pathWords, secondWords, headsWords, numbersOf, settingsOf, alignOf, layerOf, sectionOf, pathOf, secondOf, supervisorWith};
+ghost use Rattle.numbers.specs.Numbers.{headBytes, headIn, alignBytes, alignIn, frontBytes, frontIn, stateBytes, blocksIn, stateIn};
 
-// A layer's three traces.
-pub struct LayerBytes {
-    pub accepted: [u8; 64],
-    pub gathered: [u8; 64],
-    pub previous: [u8; 64],
+// What neither a frame nor alignment changes at the line.
+pub struct Head {
+    pub k: u8,
+    pub seconds: u32,
 }
 
-// What is no number: the traces, and the expected names of section and path.
-pub struct ArrayBytes {
-    pub section: LayerBytes,
-    pub path: LayerBytes,
-    pub snames: [u8; 32],
-    pub pnames: [u8; 32],
+// What a frame leaves as it is in a layer: its provisioning but its names, and dDEG, which a mark decides.
+pub struct Front {
+    pub thr: u32,
+    pub degm: u32,
+    pub mode: u8,
+    pub disabled: bool,
+    pub deg: Filter,
 }
 
-// The numbers of the provisioning, and the seconds closed.
-fn settings_words(s: Settings, seconds: u32) -> [u32; 12]
-    ensures { λ r. ⌜ r ≡ settingsWords s seconds ⌝ }
+// What a frame changes in a layer but the bytes of its traces. `iaeseen`, `biaeseen`: whether dIAE and dBIAE stood in some frame of the
+// open second. A section's STAT, a path's dIAE and dBIAE are quiet.
+pub struct State {
+    pub known: bool,
+    pub gathering: bool,
+    pub equal: u32,
+    pub bdi: Filter,
+    pub iae: Filter,
+    pub biae: Filter,
+    pub stat: Stat,
+    pub blocks: Blocks,
+    pub iaeseen: bool,
+    pub biaeseen: bool,
+}
+
+pub fn head_bytes(h: Head) -> [u8; 32]
+    ensures { λ r. ⌜ r ≡ headBytes h ⌝ }
 {
     [
-        s.k as u32,
-        s.section.thr,
-        s.section.degm,
-        s.section.mode as u32,
-        s.section.disabled as u32,
-        s.path.thr,
-        s.path.degm,
-        s.path.mode as u32,
-        s.path.disabled as u32,
-        seconds,
+        h.k,
         0,
         0,
+        0,
+        0,
+        0,
+        0,
+        0,
+        0,
+        0,
+        0,
+        0,
+        0,
+        0,
+        0,
+        0,
+        0,
+        0,
+        0,
+        0,
+        0,
+        0,
+        0,
+        0,
+        0,
+        0,
+        0,
+        0,
+        (h.seconds % 256) as u8,
+        (h.seconds / 256 % 256) as u8,
+        (h.seconds / 65536 % 256) as u8,
+        (h.seconds / 16777216 % 256) as u8,
     ]
 }
 
-fn settings_of(w: [u32; 12], snames: [u8; 32], pnames: [u8; 32]) -> Settings
-    ensures { λ r. ⌜ r ≡ settingsOf w snames pnames ⌝ }
+pub fn head_of(w: [u8; 32]) -> Head
+    ensures { λ r. ⌜ r ≡ headIn w ⌝ }
 {
-    Settings {
-        k: (w[0] % 256) as u8,
-        section: Options {
-            thr: w[1],
-            degm: w[2],
-            mode: (w[3] % 256) as u8,
-            disabled: w[4] == 1,
-            names: snames,
-        },
-        path: Options {
-            thr: w[5],
-            degm: w[6],
-            mode: (w[7] % 256) as u8,
-            disabled: w[8] == 1,
-            names: pnames,
-        },
+    let seconds = word_of(w[28], w[29], w[30], w[31]);
+    Head {
+        k: w[0],
+        seconds: seconds,
     }
 }
 
-// The numbers of alignment.
-fn align_words(a: Alignment) -> [u32; 12]
-    ensures { λ r. ⌜ r ≡ alignWords a ⌝ }
+pub fn align_bytes(a: Alignment) -> [u8; 32]
+    ensures { λ r. ⌜ r ≡ alignBytes a ⌝ }
 {
     [
-        a.framing.inframe as u32,
-        a.framing.seen as u32,
-        a.framing.misses,
-        a.lof.total,
-        a.lof.good,
-        a.multi.inmulti as u32,
-        a.multi.number as u32,
-        a.multi.misses,
-        a.multi.known as u32,
-        a.multi.previous as u32,
-        a.lom,
+        a.framing.inframe as u8,
+        a.framing.seen as u8,
+        (a.framing.misses % 256) as u8,
+        a.multi.inmulti as u8,
+        a.multi.number,
+        (a.multi.misses % 256) as u8,
+        a.multi.known as u8,
+        a.multi.previous,
         0,
+        0,
+        0,
+        0,
+        0,
+        0,
+        0,
+        0,
+        0,
+        0,
+        0,
+        0,
+        (a.lof.total % 256) as u8,
+        (a.lof.total / 256 % 256) as u8,
+        (a.lof.total / 65536 % 256) as u8,
+        (a.lof.total / 16777216 % 256) as u8,
+        (a.lof.good % 256) as u8,
+        (a.lof.good / 256 % 256) as u8,
+        (a.lof.good / 65536 % 256) as u8,
+        (a.lof.good / 16777216 % 256) as u8,
+        (a.lom % 256) as u8,
+        (a.lom / 256 % 256) as u8,
+        (a.lom / 65536 % 256) as u8,
+        (a.lom / 16777216 % 256) as u8,
     ]
 }
 
-fn align_of(w: [u32; 12]) -> Alignment
-    ensures { λ r. ⌜ r ≡ alignOf w ⌝ }
+pub fn align_of(w: [u8; 32]) -> Alignment
+    ensures { λ r. ⌜ r ≡ alignIn w ⌝ }
 {
+    let misses = w[2] as u32;
+    let mismatches = w[5] as u32;
+    let total = word_of(w[20], w[21], w[22], w[23]);
+    let good = word_of(w[24], w[25], w[26], w[27]);
+    let lom = word_of(w[28], w[29], w[30], w[31]);
     Alignment {
         framing: Framing {
             inframe: w[0] == 1,
             seen: w[1] == 1,
-            misses: w[2],
+            misses: misses,
         },
         lof: Lof {
-            total: w[3],
-            good: w[4],
+            total: total,
+            good: good,
         },
         multi: Multi {
-            inmulti: w[5] == 1,
-            number: (w[6] % 256) as u8,
-            misses: w[7],
-            known: w[8] == 1,
-            previous: (w[9] % 256) as u8,
+            inmulti: w[3] == 1,
+            number: w[4],
+            misses: mismatches,
+            known: w[6] == 1,
+            previous: w[7],
         },
-        lom: w[10],
+        lom: lom,
     }
 }
 
-// The layer of the first seven words of its segment, and its three traces.
-fn layer_of(w: [u32; 12], t: LayerBytes) -> Layer
-    ensures { λ r. ⌜ r ≡ layerOf w t ⌝ }
+pub fn front_bytes(f: Front) -> [u8; 32]
+    ensures { λ r. ⌜ r ≡ frontBytes f ⌝ }
 {
-    let accepted = t.accepted;
-    let gathered = t.gathered;
-    let previous = t.previous;
-    Layer {
-        accepted: accepted,
-        gathered: gathered,
-        previous: previous,
+    [
+        (f.thr % 256) as u8,
+        (f.thr / 256 % 256) as u8,
+        (f.thr / 65536 % 256) as u8,
+        (f.thr / 16777216 % 256) as u8,
+        (f.degm % 256) as u8,
+        f.mode,
+        f.disabled as u8,
+        f.deg.on as u8,
+        (f.deg.run % 256) as u8,
+        0,
+        0,
+        0,
+        0,
+        0,
+        0,
+        0,
+        0,
+        0,
+        0,
+        0,
+        0,
+        0,
+        0,
+        0,
+        0,
+        0,
+        0,
+        0,
+        0,
+        0,
+        0,
+        0,
+    ]
+}
+
+pub fn front_of(w: [u8; 32]) -> Front
+    ensures { λ r. ⌜ r ≡ frontIn w ⌝ }
+{
+    let thr = word_of(w[0], w[1], w[2], w[3]);
+    let degm = w[4] as u32;
+    let run = w[8] as u32;
+    Front {
+        thr: thr,
+        degm: degm,
+        mode: w[5],
+        disabled: w[6] == 1,
+        deg: Filter {
+            on: w[7] == 1,
+            run: run,
+        },
+    }
+}
+
+pub fn state_bytes(s: State) -> [u8; 32]
+    ensures { λ r. ⌜ r ≡ stateBytes s ⌝ }
+{
+    let near = s.blocks.near.0;
+    let far = s.blocks.far.0;
+    [
+        s.known as u8,
+        s.gathering as u8,
+        (s.equal % 256) as u8,
+        s.bdi.on as u8,
+        (s.bdi.run % 256) as u8,
+        s.iae.on as u8,
+        (s.iae.run % 256) as u8,
+        s.biae.on as u8,
+        (s.biae.run % 256) as u8,
+        s.stat.value,
+        (s.stat.run % 256) as u8,
+        s.stat.known as u8,
+        s.stat.accepted,
+        s.blocks.neards as u8,
+        s.blocks.fards as u8,
+        s.iaeseen as u8,
+        s.biaeseen as u8,
+        0,
+        0,
+        0,
+        0,
+        0,
+        0,
+        0,
+        (near % 256) as u8,
+        (near / 256 % 256) as u8,
+        (near / 65536 % 256) as u8,
+        (near / 16777216 % 256) as u8,
+        (far % 256) as u8,
+        (far / 256 % 256) as u8,
+        (far / 65536 % 256) as u8,
+        (far / 16777216 % 256) as u8,
+    ]
+}
+
+fn blocks_of(w: [u8; 32]) -> Blocks
+    ensures { λ r. ⌜ r ≡ blocksIn w ⌝ }
+{
+    let near = word_of(w[24], w[25], w[26], w[27]);
+    let far = word_of(w[28], w[29], w[30], w[31]);
+    Blocks {
+        near: Near(near),
+        far: Far(far),
+        neards: w[13] == 1,
+        fards: w[14] == 1,
+    }
+}
+
+pub fn state_of(w: [u8; 32]) -> State
+    ensures { λ r. ⌜ r ≡ stateIn w ⌝ }
+{
+    let equal = w[2] as u32;
+    let bdi = w[4] as u32;
+    let iae = w[6] as u32;
+    let biae = w[8] as u32;
+    let stat = w[10] as u32;
+    let blocks = blocks_of(w);
+    State {
         known: w[0] == 1,
         gathering: w[1] == 1,
-        equal: w[2],
+        equal: equal,
         bdi: Filter {
             on: w[3] == 1,
-            run: w[4],
+            run: bdi,
         },
-        deg: Filter {
-            on: w[5] == 1,
-            run: w[6],
-        },
-    }
-}
-
-// The numbers of the section.
-fn section_words(s: SectionState) -> [u32; 12]
-    ensures { λ r. ⌜ r ≡ sectionWords s ⌝ }
-{
-    [
-        s.layer.known as u32,
-        s.layer.gathering as u32,
-        s.layer.equal,
-        s.layer.bdi.on as u32,
-        s.layer.bdi.run,
-        s.layer.deg.on as u32,
-        s.layer.deg.run,
-        s.iae.on as u32,
-        s.iae.run,
-        s.biae.on as u32,
-        s.biae.run,
-        0,
-    ]
-}
-
-fn section_of(w: [u32; 12], l: Layer) -> SectionState
-    ensures { λ r. ⌜ r ≡ sectionOf w l ⌝ }
-{
-    SectionState {
-        layer: l,
         iae: Filter {
-            on: w[7] == 1,
-            run: w[8],
+            on: w[5] == 1,
+            run: iae,
         },
         biae: Filter {
-            on: w[9] == 1,
-            run: w[10],
+            on: w[7] == 1,
+            run: biae,
         },
-    }
-}
-
-// The numbers of the path.
-fn path_words(s: PathState) -> [u32; 12]
-    ensures { λ r. ⌜ r ≡ pathWords s ⌝ }
-{
-    [
-        s.layer.known as u32,
-        s.layer.gathering as u32,
-        s.layer.equal,
-        s.layer.bdi.on as u32,
-        s.layer.bdi.run,
-        s.layer.deg.on as u32,
-        s.layer.deg.run,
-        s.stat.value as u32,
-        s.stat.run,
-        s.stat.known as u32,
-        s.stat.accepted as u32,
-        0,
-    ]
-}
-
-fn path_of(w: [u32; 12], l: Layer) -> PathState
-    ensures { λ r. ⌜ r ≡ pathOf w l ⌝ }
-{
-    PathState {
-        layer: l,
         stat: Stat {
-            value: (w[7] % 256) as u8,
-            run: w[8],
-            known: w[9] == 1,
-            accepted: (w[10] % 256) as u8,
+            value: w[9],
+            run: stat,
+            known: w[11] == 1,
+            accepted: w[12],
         },
-    }
-}
-
-// The numbers of the open second but its heads.
-fn second_words(c: Second) -> [u32; 12]
-    ensures { λ r. ⌜ r ≡ secondWords c ⌝ }
-{
-    [
-        c.frames.0,
-        c.section.near.0,
-        c.section.far.0,
-        c.section.neards as u32,
-        c.section.fards as u32,
-        c.path.near.0,
-        c.path.far.0,
-        c.path.neards as u32,
-        c.path.fards as u32,
-        c.iae as u32,
-        c.biae as u32,
-        0,
-    ]
-}
-
-// Its ten heads.
-fn heads_words(c: Second) -> [u32; 12]
-    ensures { λ r. ⌜ r ≡ headsWords c ⌝ }
-{
-    let h = c.heads;
-    [
-        h[0],
-        h[1],
-        h[2],
-        h[3],
-        h[4],
-        h[5],
-        h[6],
-        h[7],
-        h[8],
-        h[9],
-        0,
-        0,
-    ]
-}
-
-fn second_of(w: [u32; 12], h: [u32; 12]) -> Second
-    ensures { λ r. ⌜ r ≡ secondOf w h ⌝ }
-{
-    Second {
-        frames: Frames(w[0]),
-        heads: [h[0], h[1], h[2], h[3], h[4], h[5], h[6], h[7], h[8], h[9]],
-        section: Blocks {
-            near: Near(w[1]),
-            far: Far(w[2]),
-            neards: w[3] == 1,
-            fards: w[4] == 1,
-        },
-        path: Blocks {
-            near: Near(w[5]),
-            far: Far(w[6]),
-            neards: w[7] == 1,
-            fards: w[8] == 1,
-        },
-        iae: w[9] == 1,
-        biae: w[10] == 1,
-    }
-}
-
-// All numbers of a supervisor.
-pub fn numbers_of(s: Supervisor) -> Numbers
-    ensures { λ r. ⌜ r ≡ numbersOf s ⌝ }
-{
-    let settings = s.settings;
-    let align = s.layers.align;
-    let section = s.layers.section;
-    let path = s.layers.path;
-    let second = s.second;
-    let a = settings_words(settings, s.seconds);
-    let b = align_words(align);
-    let c = section_words(section);
-    let d = path_words(path);
-    let e = second_words(second);
-    let f = heads_words(second);
-    Numbers {
-        settings: a,
-        align: b,
-        section: c,
-        path: d,
-        second: e,
-        heads: f,
-    }
-}
-
-// The supervisor of its numbers and its arrays.
-pub fn supervisor_of(n: Numbers, a: ArrayBytes) -> Supervisor
-    ensures { λ r. ⌜ r ≡ supervisorWith n a ⌝ }
-{
-    let w = n.settings;
-    let aw = n.align;
-    let sw = n.section;
-    let pw = n.path;
-    let cw = n.second;
-    let hw = n.heads;
-    let st = a.section;
-    let pt = a.path;
-    let snames = a.snames;
-    let pnames = a.pnames;
-    let settings = settings_of(w, snames, pnames);
-    let align = align_of(aw);
-    let sl = layer_of(sw, st);
-    let section = section_of(sw, sl);
-    let pl = layer_of(pw, pt);
-    let path = path_of(pw, pl);
-    let second = second_of(cw, hw);
-    Supervisor {
-        settings: settings,
-        layers: Layers {
-            align: align,
-            section: section,
-            path: path,
-        },
-        second: second,
-        seconds: w[9],
+        blocks: blocks,
+        iaeseen: w[15] == 1,
+        biaeseen: w[16] == 1,
     }
 }

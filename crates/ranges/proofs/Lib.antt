@@ -1,2 +1,4 @@
+pub mod Below
 pub mod Refuted
+pub mod Strips
 pub mod Unique

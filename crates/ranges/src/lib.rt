@@ -1,66 +1,247 @@
-// The numbers of a supervisor in lent bytes, and the test of refusal 17: the length, and each number within its range. docs/SUPERVISOR.md
-// has the table.
+// The test of refusal 17: the length of lent bytes, and each number within its range. docs/SUPERVISOR.md has the table.
+use words::word_of;
 ghost use mathlib.Core.Path.{_≡_};
-ghost use Rattle.ranges.specs.Sound.{numbersIn, ranged, sound};
+ghost use Prim.Native.Nat.{_+_, _≤_};
+ghost use lib.ListN.{length};
+ghost use Rattle.codec.specs.Over.{bytesIn};
+ghost use Rattle.words.specs.Words.{wordsIn};
+ghost use Rattle.ranges.specs.Sound.{below, lineGreatest, sectionGreatest, pathGreatest, lineRanged, lineRangedBy, layerRanged, layerRangedBy, sound};
 
-// The numbers, in segments of twelve words.
-pub struct Numbers {
-    pub settings: [u32; 12],
-    pub align: [u32; 12],
-    pub section: [u32; 12],
-    pub path: [u32; 12],
-    pub second: [u32; 12],
-    pub heads: [u32; 12],
-}
-
-// The numbers that stand in lent bytes.
-pub fn numbers_in(b: &[u8]) -> Numbers
-    ensures { λ r. ⌜ r ≡ numbersIn (now (b .entry)) ⌝ }
+// Whether each byte is at most its greatest: one loop, no branch.
+fn is_below(greatest: [u8; 64], w: [u8; 64]) -> bool
+    ensures { λ r. ⌜ r ≡ below greatest w ⌝ }
 {
-    let settings = words::words_in(b, 0);
-    let align = words::words_in(b, 48);
-    let section = words::words_in(b, 96);
-    let path = words::words_in(b, 144);
-    let second = words::words_in(b, 192);
-    let heads = words::words_in(b, 240);
-    Numbers {
-        settings: settings,
-        align: align,
-        section: section,
-        path: path,
-        second: second,
-        heads: heads,
+    let mut good = true;
+    for i in 0..64 {
+        let e = w[i] <= greatest[i];
+        good = good & e;
     }
+    good
 }
 
-// Whether each number lies in its range.
-fn is_ranged(n: Numbers) -> bool
-    ensures { λ r. ⌜ r ≡ ranged n ⌝ }
+fn line_greatest() -> [u8; 64]
+    ensures { λ r. ⌜ r ≡ lineGreatest ⌝ }
 {
-    let settings = n.settings;
-    let align = n.align;
-    let section = n.section;
-    let path = n.path;
-    let second = n.second;
-    let heads = n.heads;
-    let a = words::in_range(
-        [1, 1, 2, 0, 0, 1, 2, 0, 0, 0, 0, 0],
-        [3, 329492, 10, 3, 1, 329492, 10, 3, 1, 4294967295, 0, 0],
-        settings,
-    );
-    let b = words::in_range(
-        [0; 12],
-        [1, 1, 4, 989, 989, 1, 255, 4, 1, 255, 989, 0],
-        align,
-    );
-    let c = words::in_range([0; 12], [1, 1, 3, 1, 4, 1, 9, 1, 4, 1, 2, 0], section);
-    let d = words::in_range([0; 12], [1, 1, 3, 1, 4, 1, 9, 7, 3, 1, 7, 0], path);
-    let e = words::in_range(
-        [0; 12],
-        [400000, 400000, 400000, 1, 1, 400000, 400000, 1, 1, 1, 1, 0],
-        second,
-    );
-    let f = words::in_range(
+    [
+        3,
+        0,
+        0,
+        0,
+        0,
+        0,
+        0,
+        0,
+        0,
+        0,
+        0,
+        0,
+        0,
+        0,
+        0,
+        0,
+        0,
+        0,
+        0,
+        0,
+        0,
+        0,
+        0,
+        0,
+        0,
+        0,
+        0,
+        0,
+        255,
+        255,
+        255,
+        255,
+        1,
+        1,
+        4,
+        1,
+        255,
+        4,
+        1,
+        255,
+        0,
+        0,
+        0,
+        0,
+        0,
+        0,
+        0,
+        0,
+        0,
+        0,
+        0,
+        0,
+        255,
+        255,
+        255,
+        255,
+        255,
+        255,
+        255,
+        255,
+        255,
+        255,
+        255,
+        255,
+    ]
+}
+
+fn section_greatest() -> [u8; 64]
+    ensures { λ r. ⌜ r ≡ sectionGreatest ⌝ }
+{
+    [
+        255,
+        255,
+        255,
+        255,
+        10,
+        3,
+        1,
+        1,
+        9,
+        0,
+        0,
+        0,
+        0,
+        0,
+        0,
+        0,
+        0,
+        0,
+        0,
+        0,
+        0,
+        0,
+        0,
+        0,
+        0,
+        0,
+        0,
+        0,
+        0,
+        0,
+        0,
+        0,
+        1,
+        1,
+        3,
+        1,
+        4,
+        1,
+        4,
+        1,
+        2,
+        0,
+        0,
+        0,
+        0,
+        1,
+        1,
+        1,
+        1,
+        0,
+        0,
+        0,
+        0,
+        0,
+        0,
+        0,
+        255,
+        255,
+        255,
+        255,
+        255,
+        255,
+        255,
+        255,
+    ]
+}
+
+fn path_greatest() -> [u8; 64]
+    ensures { λ r. ⌜ r ≡ pathGreatest ⌝ }
+{
+    [
+        255,
+        255,
+        255,
+        255,
+        10,
+        3,
+        1,
+        1,
+        9,
+        0,
+        0,
+        0,
+        0,
+        0,
+        0,
+        0,
+        0,
+        0,
+        0,
+        0,
+        0,
+        0,
+        0,
+        0,
+        0,
+        0,
+        0,
+        0,
+        0,
+        0,
+        0,
+        0,
+        1,
+        1,
+        3,
+        1,
+        4,
+        0,
+        0,
+        0,
+        0,
+        7,
+        3,
+        1,
+        7,
+        1,
+        1,
+        0,
+        0,
+        0,
+        0,
+        0,
+        0,
+        0,
+        0,
+        0,
+        255,
+        255,
+        255,
+        255,
+        255,
+        255,
+        255,
+        255,
+    ]
+}
+
+// The line's numbers, and the twelve words of its second. The single numbers are read from the strips: h is the head, a alignment.
+fn is_line(w: [u8; 64], h: [u8; 32], a: [u8; 32], c: [u32; 12]) -> bool
+    ensures { λ r. ⌜ r ≡ lineRangedBy w h a c ⌝ }
+{
+    let greatest = line_greatest();
+    let small = is_below(greatest, w);
+    let total = word_of(a[20], a[21], a[22], a[23]);
+    let good = word_of(a[24], a[25], a[26], a[27]);
+    let lom = word_of(a[28], a[29], a[30], a[31]);
+    let counts = words::in_range(
         [0; 12],
         [
             400000,
@@ -73,21 +254,59 @@ fn is_ranged(n: Numbers) -> bool
             400000,
             400000,
             400000,
-            0,
+            400000,
             0,
         ],
-        heads,
+        c,
     );
-    a & b & c & d & e & f
+    small & ((1 <= h[0]) & ((total <= 989) & ((good <= 989) & ((lom <= 989) & counts))))
 }
 
-// Whether lent bytes are a supervisor's: their length, then their numbers.
+// A layer's numbers, by the greatest of each byte. The single numbers are read from the strips: f is the front, s the state.
+fn is_layer(greatest: [u8; 64], w: [u8; 64], f: [u8; 32], s: [u8; 32]) -> bool
+    ensures { λ r. ⌜ r ≡ layerRangedBy greatest w f s ⌝ }
+{
+    let small = is_below(greatest, w);
+    let thr = word_of(f[0], f[1], f[2], f[3]);
+    let near = word_of(s[24], s[25], s[26], s[27]);
+    let far = word_of(s[28], s[29], s[30], s[31]);
+    small & ((2 <= f[4]) & ((1 <= thr) & ((thr <= 329492) & ((near <= 400000) & (far <= 400000)))))
+}
+
+// The line of lent bytes: its band, and the two strips of it.
+fn is_line_in(b: &[u8]) -> bool
+    requires { ⌜ length (now b) ≡ 688 ⌝ }
+    ensures { λ r. ⌜ r ≡ lineRanged (bytesIn 64 0 (now (b .entry))) (wordsIn 12 64 (now (b .entry))) ⌝ }
+{
+    let w = codec::band_in(b, 0);
+    let h = codec::strip_in(b, 0);
+    let a = codec::strip_in(b, 32);
+    let c = words::words_in(b, 64);
+    is_line(w, h, a, c)
+}
+
+// A layer of lent bytes, from `at`: its band, and the two strips of it.
+fn is_layer_in(b: &[u8], at: u32, greatest: [u8; 64]) -> bool
+    requires { ⌜ (length (now b) ≡ 688) × (at + 64 ≤ 688) ⌝ }
+    ensures { λ r. ⌜ r ≡ layerRanged greatest (bytesIn 64 at (now (b .entry))) ⌝ }
+{
+    let w = codec::band_in(b, at);
+    let f = codec::strip_in(b, at);
+    let s = codec::strip_in(b, at + 32);
+    is_layer(greatest, w, f, s)
+}
+
+// Whether lent bytes are a supervisor's: their length, then the numbers of the line and of each layer.
 pub fn is_sound(b: &[u8]) -> bool
     ensures { λ r. ⌜ r ≡ sound (now (b .entry)) ⌝ }
 {
-    if b.len() == 736 {
-        let n = numbers_in(b);
-        return is_ranged(n);
+    if b.len() == 688 {
+        let sg = section_greatest();
+        let pg = path_greatest();
+        let l = is_line_in(b);
+        let s = is_layer_in(b, 112, sg);
+        let p = is_layer_in(b, 400, pg);
+        return l & (s & p);
     }
     false
 }

@@ -1,7 +1,7 @@
 -- Answers that tempting readings give, shut out by the contracts of this crate. Assumes nothing.
 use Prim.Native.Nat.{ℕ}
 use mathlib.Core.Path.{_≡_}
-use mathlib.Core.Bool.{true, false}
+use mathlib.Core.Bool.{true, false, true≢false}
 use mathlib.Core.List.{List}
 use native.Mathlib.Omega.{arith}
 use lib.ListN.{getD}
@@ -12,15 +12,32 @@ use Rattle.overhead.specs.Overhead.{farBlock}
 use Rattle.causes.specs.Causes.{ssfOf}
 use Rattle.filter.specs.Filter.{upOf}
 use Rattle.second.specs.Second.{nearOf, farOf, blocksOf, countOf, discardOf, closedOf}
+use Rattle.second.specs.declared.Blocks.{Blocks}
 use Rattle.second.specs.declared.Second.{Second}
+use Rattle.second.proofs.blocks_step.Kinds as blocks-step-kinds
+use Rattle.second.proofs.blocks_step.Reads as blocks-step-reads
 use Rattle.second.proofs.count.Kinds as count-kinds
 use Rattle.second.proofs.count.Reads as count-reads
+use Rattle.second.proofs.discard.Kinds as discard-kinds
+use Rattle.second.proofs.discard.Reads as discard-reads
 use Rattle.second.proofs.closed.Kinds as closed-kinds
 use Rattle.second.proofs.closed.Reads as closed-reads
 use Rattle.second.proofs.figures.Kinds as figures-kinds
 use Rattle.second.proofs.figures.Reads as figures-reads
 use Rattle.second.proofs.fresh_second.Kinds as fresh-second-kinds
 use Rattle.second.proofs.fresh_second.Reads as fresh-second-reads
+
+-- a block is not counted where counting is stopped
+pub stopped-counted : (κs : Lfts 0) (a : Dens κs blocks-step-kinds.ps) (x : Blocks) (s : AtExit (endedOf 0 blocks-step-kinds.ps blocks-step-kinds.r) κs)
+    → a .0 .near .0 ≡ 0 → a .1 .0 .near ≡ true → a .1 .0 .stopped ≡ true → x .near .0 ≡ 1 → blocks-step-reads.Post κs a x s → ⊥
+unfolding blocksOf nearOf
+stopped-counted κs a x s zero shown stopped near e = let h : _≡_ {A = ℕ} 0 1 = simp (e, shown, stopped, zero) at near in omega arith
+
+-- DS is raised also where counting is stopped
+pub stopped-no-ds : (κs : Lfts 0) (a : Dens κs blocks-step-kinds.ps) (x : Blocks) (s : AtExit (endedOf 0 blocks-step-kinds.ps blocks-step-kinds.r) κs)
+    → a .0 .neards ≡ false → a .1 .0 .neards ≡ true → a .1 .0 .stopped ≡ true → x .neards ≡ false → blocks-step-reads.Post κs a x s → ⊥
+unfolding blocksOf
+stopped-no-ds κs a x s before shown stopped off e = let h : true ≡ false = simp (e, before, shown) at off in true≢false h
 
 -- a near block is not counted in a frame in which SSF stands
 pub counted-under-ssf : (κs : Lfts 0) (a : Dens κs count-kinds.ps) (x : Second) (s : AtExit (endedOf 0 count-kinds.ps count-kinds.r) κs)
@@ -40,6 +57,18 @@ pub nine-counted : (κs : Lfts 0) (a : Dens κs count-kinds.ps) (x : Second) (s 
     → a .0 .section .far .0 ≡ 0 → a .1 .1 .0 .section .bei ≡ 9 → x .section .far .0 ≡ 1 → count-reads.Post κs a x s → ⊥
 unfolding countOf blocksOf farOf farBlock
 nine-counted κs a x s zero nine far e = let h : _≡_ {A = ℕ} 0 1 = simp (e, nine, zero) at far in omega arith
+
+-- dIAE discards the near values too
+pub iae-keeps-near : (κs : Lfts 0) (a : Dens κs discard-kinds.ps) (x : Blocks) (s : AtExit (endedOf 0 discard-kinds.ps discard-kinds.r) κs)
+    → a .0 .near .0 ≡ 1 → a .1 .0 ≡ true → x .near .0 ≡ 1 → discard-reads.Post κs a x s → ⊥
+unfolding discardOf
+iae-keeps-near κs a x s one iae near e = let h : _≡_ {A = ℕ} 0 1 = simp (e, iae) at near in omega arith
+
+-- dBIAE alone does not discard them
+pub biae-takes-near : (κs : Lfts 0) (a : Dens κs discard-kinds.ps) (x : Blocks) (s : AtExit (endedOf 0 discard-kinds.ps discard-kinds.r) κs)
+    → a .0 .near .0 ≡ 1 → a .1 .0 ≡ false → a .1 .1 .0 ≡ true → x .near .0 ≡ 0 → discard-reads.Post κs a x s → ⊥
+unfolding discardOf
+biae-takes-near κs a x s one iae biae near e = let h : _≡_ {A = ℕ} 1 0 = simp (e, iae, one) at near in omega arith
 
 -- a second in which dBIAE stood loses its far values
 pub biae-keeps-far : (κs : Lfts 0) (a : Dens κs closed-kinds.ps) (x : Second) (s : AtExit (endedOf 0 closed-kinds.ps closed-kinds.r) κs)

@@ -67,7 +67,7 @@ fn frames_step(n: Frames) -> Frames
     Frames(x)
 }
 
-fn blocks_step(b: Blocks, s: Shows) -> Blocks
+pub fn blocks_step(b: Blocks, s: Shows) -> Blocks
     ensures { λ r. ⌜ r ≡ blocksOf b s ⌝ }
 {
     let n = b.near;
@@ -146,7 +146,7 @@ pub fn count(c: Second, d: Standing, o: Overhead, sm: u8, pm: u8) -> Second
 }
 
 // The section's values where dIAE or dBIAE stood in the second.
-fn discard(b: Blocks, iae: bool, biae: bool) -> Blocks
+pub fn discard(b: Blocks, iae: bool, biae: bool) -> Blocks
     ensures { λ r. ⌜ r ≡ discardOf b iae biae ⌝ }
 {
     if iae {

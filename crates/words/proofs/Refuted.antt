@@ -9,10 +9,14 @@ use borrow.Fn.Kinds.{Dens, endedOf}
 use denote.Triple.Clauses.{AtExit}
 use denote.Ref.{now}
 use lib.ListN.{getD, replicate}
+use Rattle.answer.specs.Answer.{NoAnswer}
 use Rattle.answer.specs.Over.{over}
 use Rattle.codec.specs.Over.{laid}
-use Rattle.words.specs.Words.{flat, wordsOf, wordsIn}
+use Rattle.filter.specs.Filter.{upOf}
+use Rattle.words.specs.Words.{flat, wordsOf, wordsIn, countedIn}
 use Rattle.words.specs.Ranges.{inside}
+use Rattle.words.proofs.word_of.Kinds as word-of-kinds
+use Rattle.words.proofs.word_of.Reads as word-of-reads
 use Rattle.words.proofs.words_in.Kinds as words-in-kinds
 use Rattle.words.proofs.words_in.Reads as words-in-reads
 use Rattle.words.proofs.lay_words.Kinds as lay-words-kinds
@@ -21,6 +25,12 @@ use Rattle.words.proofs.record_of.Kinds as record-of-kinds
 use Rattle.words.proofs.record_of.Reads as record-of-reads
 use Rattle.words.proofs.in_range.Kinds as in-range-kinds
 use Rattle.words.proofs.in_range.Reads as in-range-reads
+use Rattle.words.proofs.count_at.Kinds as count-at-kinds
+use Rattle.words.proofs.count_at.Reads as count-at-reads
+
+-- word_of: the first byte is the lowest
+pub highest-first : NoAnswer word-of-kinds.ps word-of-kinds.r word-of-reads.Post (1, (0, (0, (0, tt)))) 16777216
+highest-first s e = let z : _≡_ {A = ℕ} 16777216 1 = e in omega arith
 
 -- words_in: the second byte of a word counts 256, and not 65,536
 pub bytes-swapped : (κs : Lfts 1) (a : Dens κs words-in-kinds.ps) (x : List ℕ) (s : AtExit (endedOf 1 words-in-kinds.ps words-in-kinds.r) κs)
@@ -53,3 +63,21 @@ pub last-alone : (κs : Lfts 0) (s : AtExit (endedOf 0 in-range-kinds.ps in-rang
     → in-range-reads.Post κs (replicate 12 0, (replicate 12 0, (1 ∷ replicate 11 0, tt))) true s → ⊥
 unfolding inside
 last-alone κs s e = true≢false e
+
+-- count_at: 256 comes after 255
+pub carry-lost : (κs : Lfts 1) (a : Dens κs count-at-kinds.ps) (s : AtExit (endedOf 1 count-at-kinds.ps count-at-kinds.r) κs)
+    → now (a .0) ≡ 255 ∷ replicate 3 0 → a .1 .0 ≡ 0 → a .1 .1 .0 ≡ 400000 → getD (now (s .0)) 1 0 ≡ 0 → count-at-reads.Post κs a tt s → ⊥
+unfolding countedIn laid over upOf
+carry-lost κs a s b i n end e =
+    let h : now (s .0) ≡ countedIn (255 ∷ replicate 3 0) 0 400000 = rw (b, i, n) at e in
+    let z : _≡_ {A = ℕ} 0 1 = sym end ∙ ap (λ (l : List ℕ). getD l 1 0) h in
+    omega arith
+
+-- count_at: no count goes beyond its greatest
+pub counted-beyond : (κs : Lfts 1) (a : Dens κs count-at-kinds.ps) (s : AtExit (endedOf 1 count-at-kinds.ps count-at-kinds.r) κs)
+    → now (a .0) ≡ 7 ∷ replicate 3 0 → a .1 .0 ≡ 0 → a .1 .1 .0 ≡ 7 → getD (now (s .0)) 0 0 ≡ 8 → count-at-reads.Post κs a tt s → ⊥
+unfolding countedIn laid over upOf
+counted-beyond κs a s b i n end e =
+    let h : now (s .0) ≡ countedIn (7 ∷ replicate 3 0) 0 7 = rw (b, i, n) at e in
+    let z : _≡_ {A = ℕ} 8 7 = sym end ∙ ap (λ (l : List ℕ). getD l 0 0) h in
+    omega arith

@@ -4,6 +4,8 @@ use mathlib.Core.List.{List}
 use Prim.Native.Nat.{ℕ}
 use denote.Ref.{now}
 use Rattle.answer.specs.Answer.{OneAnswer, OneEnd}
+use Rattle.words.proofs.word_of.Kinds as word-of-kinds
+use Rattle.words.proofs.word_of.Reads as word-of-reads
 use Rattle.words.proofs.words_in.Kinds as words-in-kinds
 use Rattle.words.proofs.words_in.Reads as words-in-reads
 use Rattle.words.proofs.record_of.Kinds as record-of-kinds
@@ -12,6 +14,11 @@ use Rattle.words.proofs.in_range.Kinds as in-range-kinds
 use Rattle.words.proofs.in_range.Reads as in-range-reads
 use Rattle.words.proofs.lay_words.Kinds as lay-words-kinds
 use Rattle.words.proofs.lay_words.Reads as lay-words-reads
+use Rattle.words.proofs.count_at.Kinds as count-at-kinds
+use Rattle.words.proofs.count_at.Reads as count-at-reads
+
+pub word-of-one : OneAnswer 0 word-of-kinds.ps word-of-kinds.r word-of-reads.Post
+word-of-one κs a x y s t p q = p ∙ sym q
 
 pub words-in-one : OneAnswer 1 words-in-kinds.ps words-in-kinds.r words-in-reads.Post
 words-in-one κs a x y s t p q = p ∙ sym q
@@ -24,3 +31,6 @@ in-range-one κs a x y s t p q = p ∙ sym q
 
 pub lay-words-end : OneEnd 1 lay-words-kinds.ps lay-words-kinds.r (List ℕ) (λ κs s. now (s .0)) lay-words-reads.Post
 lay-words-end κs a x y s t p q = p ∙ sym q
+
+pub count-at-end : OneEnd 1 count-at-kinds.ps count-at-kinds.r (List ℕ) (λ κs s. now (s .0)) count-at-reads.Post
+count-at-end κs a x y s t p q = p ∙ sym q

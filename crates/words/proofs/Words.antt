@@ -6,10 +6,12 @@ use native.Mathlib.Nat.{not-suc-le-zero, le-of-suc-le-suc, div-div-eq-div-mul, m
 use native.Mathlib.Numerals.{add-one}
 use native.Mathlib.Omega.{arith}
 use lib.ListN.{length, getD, take, drop, replicate, set}
-use lib.Seq.{take-suc, getD-drop, length-take-le}
+use lib.Seq.{take-suc, getD-drop, length-take-le, take-append-add, drop-append-add}
 use borrow.Author.Tests.{le-leb, lt-leb}
-use Rattle.words.specs.Words.{le4, flat, wordAt, wordsOf, wordsIn}
+use Rattle.words.specs.Words.{le4, flat, wordAt, wordsOf, wordsIn, countedIn}
 use Rattle.answer.specs.Over.{over}
+use Rattle.codec.proofs.Overs.{laid-done, laid-kept}
+use Rattle.filter.specs.Filter.{upOf}
 use Rattle.answer.proofs.Overs.{set-over, over-length, over-over}
 
 pub flat-append : (x y : List ℕ) → flat (x ++ y) ≡ flat x ++ flat y
@@ -87,3 +89,32 @@ put4 d n a b c e h =
     let l3 = over-length d n (a ∷ b ∷ c ∷ []) (omega arith) in
     let x4 = set-over (over d n (a ∷ b ∷ c ∷ [])) (n + 3) e (omega arith) ∙ over-over d n (n + 3) (a ∷ b ∷ c ∷ []) (e ∷ []) (omega arith) refl in
     rw (x1, x2, x3) x4
+
+-- one more in a word, where it lies within the bytes and where it does not
+pub counted : (d o : List ℕ) (i n x m : ℕ) → i * 4 + 4 ≤ length d → x ≡ wordAt d (i * 4) → m ≡ upOf x n → o ≡ over d (i * 4) (le4 m) → o ≡ countedIn d i n
+unfolding countedIn
+counted d o i n x m h e u w = rw (← e, ← u) (laid-done d (i * 4) 4 (le4 m) o refl h w)
+
+pub counted-not : (d : List ℕ) (i n : ℕ) → length d < i * 4 + 4 → d ≡ countedIn d i n
+unfolding countedIn
+counted-not d i n h = laid-kept d (i * 4) 4 (le4 (upOf (wordAt d (i * 4)) n)) refl h
+
+-- a word of many, read and written in its place
+pub word-in-flat : (ws : List ℕ) (i : ℕ) → getD ws i 0 < 4294967296 → i < length ws → wordAt (flat ws) (i * 4) ≡ getD ws i 0
+unfolding flat
+word-in-flat [] i b h = absurd (not-suc-le-zero h)
+word-in-flat (w ∷ ws) zero b h = word-back w b
+word-in-flat (w ∷ ws) (suc i) b h =
+    let e : suc i * 4 ≡ 4 + i * 4 = omega arith in
+    ap (wordAt (flat (w ∷ ws))) e ∙ sym (word-at-drop (flat (w ∷ ws)) 4 (i * 4)) ∙ word-in-flat ws i b (le-of-suc-le-suc h)
+
+pub over-in-flat : (ws : List ℕ) (i x : ℕ) → i < length ws → over (flat ws) (i * 4) (le4 x) ≡ flat (set ws i x)
+unfolding flat over
+over-in-flat [] i x h = absurd (not-suc-le-zero h)
+over-in-flat (w ∷ ws) zero x h = refl
+over-in-flat (w ∷ ws) (suc i) x h =
+    let e : suc i * 4 ≡ 4 + i * 4 = omega arith in
+    let k : 4 + i * 4 + 4 ≡ 4 + (i * 4 + 4) = omega arith in
+    let t = take-append-add (le4 w) (flat ws) (i * 4) in
+    let d = drop-append-add (le4 w) (flat ws) (i * 4 + 4) in
+    rw (e, k, t, d) (ap (λ (r : List ℕ). le4 w ++ r) (over-in-flat ws i x (le-of-suc-le-suc h)))

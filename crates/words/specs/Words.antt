@@ -4,6 +4,8 @@ use mathlib.Core.List.{List, [], _∷_, _++_}
 use Prim.Native.Nat.{ℕ, zero, suc, _+_, _*_, _/_, _%_}
 use lib.Dec.{leb}
 use lib.ListN.{length, getD, drop, replicate}
+use Rattle.codec.specs.Over.{laid}
+use Rattle.filter.specs.Filter.{upOf}
 
 -- the four bytes of x, the lowest first
 abbrev pub le4 : ℕ → List ℕ
@@ -14,9 +16,13 @@ unfoldable pub flat : List ℕ → List ℕ
 flat [] = []
 flat (w ∷ ws) = le4 w ++ flat ws
 
+-- the word of four bytes, the lowest first
+abbrev pub wordOf : ℕ → ℕ → ℕ → ℕ → ℕ
+wordOf a b c d = a + 256 * b + 65536 * c + 16777216 * d
+
 -- the word whose first byte stands at `at`
 abbrev pub wordAt : List ℕ → ℕ → ℕ
-wordAt l at = getD l at 0 + 256 * getD l (at + 1) 0 + 65536 * getD l (at + 2) 0 + 16777216 * getD l (at + 3) 0
+wordAt l at = wordOf (getD l at 0) (getD l (at + 1) 0) (getD l (at + 2) 0) (getD l (at + 3) 0)
 
 -- the first n words
 unfoldable pub wordsOf : ℕ → List ℕ → List ℕ
@@ -26,3 +32,7 @@ wordsOf (suc n) l = wordAt l 0 ∷ wordsOf n (drop 4 l)
 -- n words from a place on, zeros where they do not lie within the bytes
 unfoldable pub wordsIn : ℕ → ℕ → List ℕ → List ℕ
 wordsIn n at l = cond (leb (at + n * 4) (length l)) (wordsOf n (drop at l)) (replicate n 0)
+
+-- one more in word i, and n at most; nothing where it does not lie within the bytes
+unfoldable pub countedIn : List ℕ → ℕ → ℕ → List ℕ
+countedIn l i n = laid l (i * 4) (le4 (upOf (wordAt l (i * 4)) n))

@@ -5,7 +5,7 @@ ghost use Prim.Native.Nat.{_+_, _*_, _≤_, _<_};
 ghost use lib.ListN.{length, drop};
 ghost use Rattle.answer.specs.Over.{over};
 ghost use Rattle.codec.specs.Over.{laid};
-ghost use Rattle.words.specs.Words.{le4, flat, wordAt, wordsOf, wordsIn};
+ghost use Rattle.words.specs.Words.{le4, flat, wordOf, wordAt, wordsOf, wordsIn, countedIn};
 ghost use Rattle.words.specs.Ranges.{inside};
 
 fn wide(x: u8) -> u32
@@ -14,12 +14,19 @@ fn wide(x: u8) -> u32
     x as u32
 }
 
+// The word of four bytes, the lowest first.
+pub fn word_of(a: u8, b: u8, c: u8, d: u8) -> u32
+    ensures { λ r. ⌜ r ≡ wordOf a b c d ⌝ }
+{
+    wide(a) + 256 * wide(b) + 65536 * wide(c) + 16777216 * wide(d)
+}
+
 // The word whose first byte stands at `at`.
 fn word_at(b: &[u8], at: usize) -> u32
     requires { ⌜ at + 4 ≤ length (now b) ⌝ }
     ensures { λ r. ⌜ r ≡ wordAt (now (b .entry)) at ⌝ }
 {
-    wide(b[at]) + 256 * wide(b[at + 1]) + 65536 * wide(b[at + 2]) + 16777216 * wide(b[at + 3])
+    word_of(b[at], b[at + 1], b[at + 2], b[at + 3])
 }
 
 // w becomes the words of b from `at`.
@@ -97,4 +104,16 @@ pub fn in_range(lo: [u32; 12], hi: [u32; 12], w: [u32; 12]) -> bool
         good = good & above & below;
     }
     good
+}
+
+// One more in word i, and `most` at most.
+pub fn count_at(b: &mut [u8], i: u32, most: u32)
+    ensures { λ _. ⌜ now (b .exit) ≡ countedIn (now (b .entry)) i most ⌝ }
+{
+    let at = i as usize * 4;
+    if at + 4 <= b.len() {
+        let x = word_at(b, at);
+        let more = filter::up(x, most);
+        put_word(b, at, more);
+    }
 }

@@ -1,6 +1,8 @@
-use mathlib.Core.Path.{sym, _∙_}
 use denote.Ref.{now}
-use Rattle.card.proofs.Calls.{sound-long, mark-bad, mark-done, mark-refused}
+use Prim.Native.Nat.{ℕ, _+_}
+use mathlib.Core.Path.{sym, ap, _∙_}
+use Rattle.image.proofs.Parts.{sound-long}
+use Rattle.card.proofs.Calls.{k-is, seconds-is, mark-bad, mark-done, mark-refused}
 use borrow.Author.Needs.{needs}
 use Rattle.card.proofs.otn_mark.Statement.{statement}
 use Rattle.card.proofs.otn_mark.Tie as tie
@@ -8,17 +10,25 @@ use Rattle.card.proofs.otn_mark.Tie as tie
 is-sound-requires : tie.Need-is-sound-requires
 is-sound-requires c κs = search needs
 
-load-requires : tie.Need-load-requires
-load-requires c κs = sound-long (now (c .before .before .before .before .before .before .args .sup)) (sym (c .before .before .is-sound .ensures) ∙ c .before .if1 .taken)
+strip-in-requires : tie.Need-strip-in-requires
+strip-in-requires c κs = search needs
 
-mark-requires : tie.Need-mark-requires
-mark-requires c κs = search needs
+head-of-requires : tie.Need-head-of-requires
+head-of-requires c κs = search needs
+
+add-number : tie.Need-add-number
+add-number c = search needs
+
+mark-in-requires : tie.Need-mark-in-requires
+mark-in-requires c κs =
+    let sup = now (c .before .before .before .before .before .before .before .before .before .before .before .before .args .sup) in
+    let t = sym (c .before .before .before .before .before .before .before .before .is-sound .ensures) ∙ c .before .before .before .before .before .before .before .if1 .taken in
+    let w = c .before .before .before .before .before .strip-in .ensures in
+    let h = c .before .before .before .before .head-of .ensures in
+    (sound-long sup t, (t, (k-is sup sup _ _ t w h, ap (λ (x : ℕ). x + 1) (seconds-is sup sup _ _ t w h))))
 
 record-of-requires : tie.Need-record-of-requires
 record-of-requires c κs = search needs
-
-store-requires : tie.Need-store-requires
-store-requires c κs = sound-long (now (c .before .before .before .before .before .before .before .before .before .before .before .before .before .before .args .sup)) (sym (c .before .before .before .before .before .before .before .before .before .before .is-sound .ensures) ∙ c .before .before .before .before .before .before .before .before .before .if1 .taken)
 
 slice-aggregate-pour : tie.Need-slice-aggregate-pour
 slice-aggregate-pour c = search needs
@@ -34,20 +44,19 @@ same-length-2 c = search needs
 
 returns : tie.Need-returns
 returns c =
-    let a = c .before .before .before .before .before .before .before .before .before .before .before .before .before .before .before .before .before .before .before .before .before .before .args in
-    let t = sym (c .before .before .before .before .before .before .before .before .before .before .before .before .before .before .before .before .before .before .is-sound .ensures) ∙ c .before .before .before .before .before .before .before .before .before .before .before .before .before .before .before .before .before .if1 .taken in
-    mark-done (now (a .sup)) (now (a .out)) _ _ (c .before .before .before .before .before .before .before .before .before .before .before .before .before .before .before .load .ensures) t (c .before .before .before .before .before .before .before .before .before .before .before .before .before .before .mark .ensures) _ _ _ (c .before .before .before .before .before .before .before .before .before .before .before .before .if2 .taken) (c .before .before .before .before .before .before .before .store .ensures) (c .before .before .before .before .before .before .before .before .before .record-of .ensures) (c .before .before .pour .ensures)
-
-wide-requires : tie.Need-wide-requires
-wide-requires c κs = search needs
+    let a = c .before .before .before .before .before .before .before .before .before .before .before .before .before .before .before .before .before .before .before .before .before .args in
+    let t = sym (c .before .before .before .before .before .before .before .before .before .before .before .before .before .before .before .before .before .is-sound .ensures) ∙ c .before .before .before .before .before .before .before .before .before .before .before .before .before .before .before .before .if1 .taken in
+    let e = c .before .before .before .before .before .before .before .before .mark-in .ensures in
+    mark-done (now (a .sup)) (now (a .out)) _ _ t (c .before .before .before .before .before .before .before .before .before .before .before .before .before .before .strip-in .ensures) (c .before .before .before .before .before .before .before .before .before .before .before .before .before .head-of .ensures) _ _ _ _ (c .before .before .before .before .before .before .before .before .before .before .before .if2 .taken) (e .0) (e .1) (c .before .before .before .before .before .record-of .ensures) (c .before .before .pour .ensures)
 
 same-length-3 : tie.Need-same-length-3
 same-length-3 c = search needs
 
 returns-2 : tie.Need-returns-2
 returns-2 c =
-    let a = c .before .before .before .before .before .before .before .before .before .before .before .args in
-    mark-refused (now (a .sup)) (now (a .out)) _ _ (c .before .before .before .before .load .ensures) (sym (c .before .before .before .before .before .before .before .is-sound .ensures) ∙ c .before .before .before .before .before .before .if1 .taken) (c .before .before .before .mark .ensures) _ (c .before .if2 .left) (c .wide .ensures)
+    let a = c .before .before .before .before .before .before .before .before .before .before .args in
+    let t = sym (c .before .before .before .before .before .before .is-sound .ensures) ∙ c .before .before .before .before .before .if1 .taken in
+    mark-refused (now (a .sup)) (now (a .out)) _ _ t (c .before .before .before .strip-in .ensures) (c .before .before .head-of .ensures) (c .if2 .left)
 
 same-length-4 : tie.Need-same-length-4
 same-length-4 c = search needs
@@ -62,16 +71,16 @@ otn-mark-spec =
     tie.close
     (tie.spec
     is-sound-requires
-    load-requires
-    mark-requires
+    strip-in-requires
+    head-of-requires
+    add-number
+    mark-in-requires
     record-of-requires
-    store-requires
     slice-aggregate-pour
     pour-requires
     same-length
     same-length-2
     returns
-    wide-requires
     same-length-3
     returns-2
     same-length-4

@@ -1,6 +1,7 @@
-use mathlib.Core.Path.{sym, _∙_}
 use denote.Ref.{now}
-use Rattle.card.proofs.Calls.{sound-long, step-bad, step-done, step-refused}
+use mathlib.Core.Path.{sym, _∙_}
+use Rattle.image.proofs.Parts.{sound-long}
+use Rattle.card.proofs.Calls.{overhead-long, step-bad, step-done, step-refused}
 use borrow.Author.Needs.{needs}
 use Rattle.card.proofs.otn_step.Statement.{statement}
 use Rattle.card.proofs.otn_step.Tie as tie
@@ -8,26 +9,30 @@ use Rattle.card.proofs.otn_step.Tie as tie
 is-sound-requires : tie.Need-is-sound-requires
 is-sound-requires c κs = search needs
 
-load-requires : tie.Need-load-requires
-load-requires c κs = sound-long (now (c .before .before .before .before .before .before .args .sup)) (sym (c .before .before .is-sound .ensures) ∙ c .before .if1 .taken)
+words-in-requires : tie.Need-words-in-requires
+words-in-requires c κs = search needs
 
-step-requires : tie.Need-step-requires
-step-requires c κs = search needs
+array-read-step-refusal : tie.Need-array-read-step-refusal
+array-read-step-refusal c = search needs
 
-store-requires : tie.Need-store-requires
-store-requires c κs = sound-long (now (c .before .before .before .before .before .before .before .before .before .before .before .before .before .args .sup)) (sym (c .before .before .before .before .before .before .before .before .before .is-sound .ensures) ∙ c .before .before .before .before .before .before .before .before .if1 .taken)
+step-refusal-requires : tie.Need-step-refusal-requires
+step-refusal-requires c κs = search needs
 
-report-word-requires : tie.Need-report-word-requires
-report-word-requires c κs = search needs
+step-in-requires : tie.Need-step-in-requires
+step-in-requires c κs =
+    let a = c .before .before .before .before .before .before .before .before .before .before .args in
+    let t = sym (c .before .before .before .before .before .before .is-sound .ensures) ∙ c .before .before .before .before .before .if1 .taken in
+    (sound-long (now (a .sup)) t, (t, overhead-long (now (a .sup)) (now (a .overhead)) (a .flags) (a .sm) (a .pm) _ _ t (c .before .before .before .words-in .ensures) (c .before .before .step-refusal .ensures) (c .before .if2 .taken)))
 
 same-length : tie.Need-same-length
 same-length c = search needs
 
 returns : tie.Need-returns
 returns c =
-    let a = c .before .before .before .before .before .before .before .before .before .before .before .before .before .before .before .before .before .args in
-    let t = sym (c .before .before .before .before .before .before .before .before .before .before .before .before .before .is-sound .ensures) ∙ c .before .before .before .before .before .before .before .before .before .before .before .before .if1 .taken in
-    step-done (now (a .sup)) (now (a .overhead)) (a .flags) (a .sm) (a .pm) _ _ (c .before .before .before .before .before .before .before .before .before .before .load .ensures) t (c .before .before .before .before .before .before .before .before .before .step .ensures) _ _ (c .before .before .before .before .before .before .before .if2 .taken) (c .report-word .ensures) (c .before .before .before .store .ensures)
+    let a = c .before .before .before .before .before .before .before .before .before .before .before .before .before .args in
+    let t = sym (c .before .before .before .before .before .before .before .before .before .is-sound .ensures) ∙ c .before .before .before .before .before .before .before .before .if1 .taken in
+    let e = c .before .before .step-in .ensures in
+    step-done (now (a .sup)) (now (a .overhead)) (a .flags) (a .sm) (a .pm) _ _ t (c .before .before .before .before .before .before .words-in .ensures) (c .before .before .before .before .before .step-refusal .ensures) _ _ (c .before .before .before .before .if2 .taken) (e .0) (e .1)
 
 wide-requires : tie.Need-wide-requires
 wide-requires c κs = search needs
@@ -37,8 +42,9 @@ same-length-2 c = search needs
 
 returns-2 : tie.Need-returns-2
 returns-2 c =
-    let a = c .before .before .before .before .before .before .before .before .before .before .before .args in
-    step-refused (now (a .sup)) (now (a .overhead)) (a .flags) (a .sm) (a .pm) _ _ (c .before .before .before .before .load .ensures) (sym (c .before .before .before .before .before .before .before .is-sound .ensures) ∙ c .before .before .before .before .before .before .if1 .taken) (c .before .before .before .step .ensures) _ (c .before .if2 .left) (c .wide .ensures)
+    let a = c .before .before .before .before .before .before .before .before .before .before .args in
+    let t = sym (c .before .before .before .before .before .before .is-sound .ensures) ∙ c .before .before .before .before .before .if1 .taken in
+    step-refused (now (a .sup)) (now (a .overhead)) (a .flags) (a .sm) (a .pm) _ _ t (c .before .before .before .words-in .ensures) (c .before .before .step-refusal .ensures) _ (c .before .if2 .left) (c .wide .ensures)
 
 same-length-3 : tie.Need-same-length-3
 same-length-3 c = search needs
@@ -53,10 +59,10 @@ otn-step-spec =
     tie.close
     (tie.spec
     is-sound-requires
-    load-requires
-    step-requires
-    store-requires
-    report-word-requires
+    words-in-requires
+    array-read-step-refusal
+    step-refusal-requires
+    step-in-requires
     same-length
     returns
     wide-requires

@@ -1,7 +1,6 @@
-use lib.ListN.{length}
-use mathlib.Core.Path.{_≡_, refl, sym, _∙_}
 use denote.Ref.{now}
-use Rattle.card.proofs.Calls.{sound-long, trace-bad, trace-done, trace-refused}
+use mathlib.Core.Path.{sym, _∙_}
+use Rattle.card.proofs.Calls.{trace-bad, trace-done, trace-refused}
 use borrow.Author.Needs.{needs}
 use Rattle.card.proofs.otn_trace.Statement.{statement}
 use Rattle.card.proofs.otn_trace.Tie as tie
@@ -9,17 +8,32 @@ use Rattle.card.proofs.otn_trace.Tie as tie
 is-sound-requires : tie.Need-is-sound-requires
 is-sound-requires c κs = search needs
 
-load-requires : tie.Need-load-requires
-load-requires c κs = sound-long (now (c .before .before .before .before .args .sup)) (sym (c .before .is-sound .ensures) ∙ c .if1 .taken)
+record-at-requires : tie.Need-record-at-requires
+record-at-requires c κs = search needs
 
-trace-of-requires : tie.Need-trace-of-requires
-trace-of-requires c κs = search needs
+add-strip-in : tie.Need-add-strip-in
+add-strip-in c = search needs
+
+strip-in-requires : tie.Need-strip-in-requires
+strip-in-requires c κs = search needs
+
+state-of-requires : tie.Need-state-of-requires
+state-of-requires c κs = search needs
 
 checked-requires : tie.Need-checked-requires
 checked-requires c κs = search needs
 
 checked-requires-2 : tie.Need-checked-requires-2
 checked-requires-2 c κs = search needs
+
+checked-requires-3 : tie.Need-checked-requires-3
+checked-requires-3 c κs = search needs
+
+add-band-in : tie.Need-add-band-in
+add-band-in c = search needs
+
+band-in-requires : tie.Need-band-in-requires
+band-in-requires c κs = search needs
 
 slice-aggregate-pour : tie.Need-slice-aggregate-pour
 slice-aggregate-pour c = search needs
@@ -32,18 +46,18 @@ same-length c = search needs
 
 returns : tie.Need-returns
 returns c =
-    let a = c .before .before .before .before .before .before .before .before .before .before .before .before .before .before .before .args in
-    let t = c .before .before .before .before .before .before .before .before .before .trace-of in
-    let g : length (t .result .trace) ≡ 64 = search needs in
-    trace-done (now (a .sup)) (a .layer) (now (a .out)) _ (t .result) _ _ (c .before .before .before .before .before .before .before .before .before .before .load .ensures) (sym (c .before .before .before .before .before .before .before .before .before .before .before .before .is-sound .ensures) ∙ c .before .before .before .before .before .before .before .before .before .before .before .if1 .taken) (t .ensures) (c .before .before .before .before .before .before .before .before .checked .ensures) (c .before .before .before .before .before .before .before .checked2 .ensures) _ _ (c .before .before .before .before .before .before .if2 .taken) refl g (c .before .before .pour .ensures)
+    let a = c .before .before .before .before .before .before .before .before .before .before .before .before .before .before .before .before .before .args in
+    let t = sym (c .before .before .before .before .before .before .before .before .before .before .before .before .before .before .is-sound .ensures) ∙ c .before .before .before .before .before .before .before .before .before .before .before .before .before .if1 .taken in
+    trace-done (now (a .sup)) (a .layer) (now (a .out)) t _ _ _ _ _ _ (c .before .before .before .before .before .before .before .before .before .before .before .before .record-at .ensures .0) (c .before .before .before .before .before .before .before .before .before .before .before .strip-in .ensures) (c .before .before .before .before .before .before .before .before .before .before .state-of .ensures) (c .before .before .before .before .before .before .before .before .before .checked .ensures) (c .before .before .before .before .before .before .before .before .checked2 .ensures) (c .before .before .before .before .before .before .before .checked3 .ensures) _ _ (c .before .before .before .before .before .before .if2 .taken) (c .before .before .before .before .before .band-in .ensures) (c .before .before .pour .ensures)
 
 wide-requires : tie.Need-wide-requires
 wide-requires c κs = search needs
 
 returns-2 : tie.Need-returns-2
 returns-2 c =
-    let a = c .before .before .before .before .before .before .before .before .before .before .args in
-    trace-refused (now (a .sup)) (a .layer) (now (a .out)) _ _ _ _ (c .before .before .before .before .before .load .ensures) (sym (c .before .before .before .before .before .before .before .is-sound .ensures) ∙ c .before .before .before .before .before .before .if1 .taken) (c .before .before .before .before .trace-of .ensures) (c .before .before .before .checked .ensures) (c .before .before .checked2 .ensures) _ (c .before .if2 .left) (c .wide .ensures)
+    let a = c .before .before .before .before .before .before .before .before .before .before .before .before .args in
+    let t = sym (c .before .before .before .before .before .before .before .before .before .is-sound .ensures) ∙ c .before .before .before .before .before .before .before .before .if1 .taken in
+    trace-refused (now (a .sup)) (a .layer) (now (a .out)) t _ _ _ _ _ _ (c .before .before .before .before .before .before .before .record-at .ensures .0) (c .before .before .before .before .before .before .strip-in .ensures) (c .before .before .before .before .before .state-of .ensures) (c .before .before .before .before .checked .ensures) (c .before .before .before .checked2 .ensures) (c .before .before .checked3 .ensures) _ (c .before .if2 .left) (c .wide .ensures)
 
 returns-3 : tie.Need-returns-3
 returns-3 c =
@@ -55,10 +69,15 @@ otn-trace-spec =
     tie.close
     (tie.spec
     is-sound-requires
-    load-requires
-    trace-of-requires
+    record-at-requires
+    add-strip-in
+    strip-in-requires
+    state-of-requires
     checked-requires
     checked-requires-2
+    checked-requires-3
+    add-band-in
+    band-in-requires
     slice-aggregate-pour
     pour-requires
     same-length

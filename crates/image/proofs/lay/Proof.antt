@@ -1,45 +1,54 @@
 use denote.Ref.{now}
-use Rattle.image.specs.Image.{Arrays}
+use Rattle.image.specs.Image.{sectionHeld, pathHeld, Sizes}
 use Rattle.image.proofs.Bytes.{stored}
 use borrow.Author.Needs.{needs}
 use Rattle.image.proofs.lay.Statement.{statement}
 use Rattle.image.proofs.lay.Tie as tie
 
-numbers-of-requires : tie.Need-numbers-of-requires
-numbers-of-requires c κs = search needs
+section-state-requires : tie.Need-section-state-requires
+section-state-requires c κs = search needs
 
-store-numbers-requires : tie.Need-store-numbers-requires
-store-numbers-requires c κs = search needs
+path-state-requires : tie.Need-path-state-requires
+path-state-requires c κs = search needs
 
-store-traces-requires : tie.Need-store-traces-requires
-store-traces-requires c κs = search needs
+store-line-requires : tie.Need-store-line-requires
+store-line-requires c κs = search needs
 
-store-traces-requires-2 : tie.Need-store-traces-requires-2
-store-traces-requires-2 c κs = search needs
+store-layer-requires : tie.Need-store-layer-requires
+store-layer-requires c κs = search needs
 
-store-names-requires : tie.Need-store-names-requires
-store-names-requires c κs = search needs
+store-layer-requires-2 : tie.Need-store-layer-requires-2
+store-layer-requires-2 c κs = search needs
 
 same-length : tie.Need-same-length
 same-length c = search needs
 
 returns : tie.Need-returns
 returns c =
-    let a = c .before .before .before .before .before .before .before .before .before .before .before .before .before .before .before .before .before .before .before .before .before .args in
-    let p1 = c .before .before .before .before .before .before .before .before .before .before .store-traces in
-    let p2 = c .before .before .before .before .before .before .store-traces2 in
-    let p3 = c .before .before .store-names in
-    let x : Arrays (a .s) = record { section = p1 .ensures .long; path = p2 .ensures .long; names = p3 .ensures .long } in
-    record { holds = stored (a .s) _ (now (a .b)) _ _ _ _ (c .before .before .before .before .before .before .before .before .before .before .before .before .before .before .before .before .before .before .before .numbers-of .ensures) (c .before .before .before .before .before .before .before .before .before .before .before .before .before .before .store-numbers .ensures) (p1 .ensures .holds) (p2 .ensures .holds) (p3 .ensures .holds); long = x }
+    let a = c .before .before .before .before .before .before .before .before .before .before .before .before .before .before .before .before .before .before .before .args in
+    let x = c .before .before .before .before .before .before .store-layer .ensures in
+    let y = c .before .before .store-layer2 .ensures in
+    let u : Sizes (sectionHeld (a .s)) = record { accepted = x .long .accepted; gathered = x .long .gathered; previous = x .long .previous; names = x .long .names } in
+    let v : Sizes (pathHeld (a .s)) = record { accepted = y .long .accepted; gathered = y .long .gathered; previous = y .long .previous; names = y .long .names } in
+    record {
+      holds =
+          stored (a .s) _ _ (now (a .b)) _ _ _
+          (c .before .before .before .before .before .before .before .before .before .before .before .before .before .before .before .before .before .section-state .ensures)
+          (c .before .before .before .before .before .before .before .before .before .before .before .before .before .before .before .before .path-state .ensures)
+          (c .before .before .before .before .before .before .before .before .before .before .store-line .ensures)
+          (x .holds)
+          (y .holds);
+      long = record { section = u; path = v };
+    }
 
 pub lay-spec : {M : Type 1} → statement M
 lay-spec =
     tie.close
     (tie.spec
-    numbers-of-requires
-    store-numbers-requires
-    store-traces-requires
-    store-traces-requires-2
-    store-names-requires
+    section-state-requires
+    path-state-requires
+    store-line-requires
+    store-layer-requires
+    store-layer-requires-2
     same-length
     returns)

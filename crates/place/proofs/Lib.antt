@@ -1,0 +1,6 @@
+pub mod Parts
+pub mod Records
+pub mod Numbers
+pub mod Marks
+pub mod Unique
+pub mod Refuted

@@ -1,0 +1,71 @@
+use denote.Ref.{now}
+use Rattle.place.proofs.Numbers.{filters-is}
+use borrow.Author.Needs.{needs}
+use Rattle.place.proofs.filters_at.Statement.{statement}
+use Rattle.place.proofs.filters_at.Tie as tie
+
+sub-filter-at : tie.Need-sub-filter-at
+sub-filter-at c = search needs
+
+part-filter-at-start : tie.Need-part-filter-at-start
+part-filter-at-start c = search needs
+
+part-filter-at-end : tie.Need-part-filter-at-end
+part-filter-at-end c = search needs
+
+filter-at-requires : tie.Need-filter-at-requires
+filter-at-requires c κs = search needs
+
+sub-filter-at-2 : tie.Need-sub-filter-at-2
+sub-filter-at-2 c = search needs
+
+part-filter-at-start-2 : tie.Need-part-filter-at-start-2
+part-filter-at-start-2 c = search needs
+
+part-filter-at-end-2 : tie.Need-part-filter-at-end-2
+part-filter-at-end-2 c = search needs
+
+filter-at-requires-2 : tie.Need-filter-at-requires-2
+filter-at-requires-2 c κs = search needs
+
+sub-filter-at-3 : tie.Need-sub-filter-at-3
+sub-filter-at-3 c = search needs
+
+part-filter-at-start-3 : tie.Need-part-filter-at-start-3
+part-filter-at-start-3 c = search needs
+
+part-filter-at-end-3 : tie.Need-part-filter-at-end-3
+part-filter-at-end-3 c = search needs
+
+filter-at-requires-3 : tie.Need-filter-at-requires-3
+filter-at-requires-3 c κs = search needs
+
+same-length : tie.Need-same-length
+same-length c = search needs
+
+returns : tie.Need-returns
+returns c =
+    let a = c .before .before .before .before .before .before .before .before .before .before .before .before .before .before in
+    let x = c .before .before .before .before .before .before .before .before .before .before .before .filter-at .ensures in
+    let y = c .before .before .before .before .before .before .before .filter-at2 .ensures in
+    let z = c .before .before .filter-at3 .ensures in
+    filters-is (now (a .args .w)) _ _ _ _ _ _ (a .args .ssf) (a .args .tim) (a .args .f) (a .pre) (x .0) (x .1) (y .0) (y .1) (z .0) (z .1)
+
+pub filters-at-spec : {M : Type 1} → statement M
+filters-at-spec =
+    tie.close
+    (tie.spec
+    sub-filter-at
+    part-filter-at-start
+    part-filter-at-end
+    filter-at-requires
+    sub-filter-at-2
+    part-filter-at-start-2
+    part-filter-at-end-2
+    filter-at-requires-2
+    sub-filter-at-3
+    part-filter-at-start-3
+    part-filter-at-end-3
+    filter-at-requires-3
+    same-length
+    returns)

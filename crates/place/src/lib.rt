@@ -1,0 +1,305 @@
+// A frame and a mark in a supervisor's bytes, part by part: numbers go through the functions by value. What a frame does not change is not written.
+use alignment::Multi;
+use causes::Line;
+use causes::PathStands;
+use causes::SectionStands;
+use filter::Filter;
+use filter::Stat;
+use numbers::Head;
+use overhead::Field;
+use second::Blocks;
+use second::Far;
+use second::Near;
+use signal::Signal;
+ghost use mathlib.Core.Path.{_≡_};
+ghost use mathlib.Core.Bool.{cond};
+ghost use Prim.Native.Nat.{_<_};
+ghost use lib.ListN.{length, set};
+ghost use Rattle.codec.specs.Over.{bytesIn};
+ghost use Rattle.filter.specs.Filter.{filterOf};
+ghost use Rattle.place.specs.Place.{filterAt, filterBytes, statBytes, flagsIn, countedBy, countsIn, sectionFilters, filteredBytes, sectionNumbers, sectionIn, sectionRecord, SectionAt, pathBdi, pathNumbers, pathIn, pathRecord, PathAt, LineAt, talliedIn, CloseAt, openedIn};
+
+// What stands at the line after a frame, and its multiframe.
+pub struct LineFrame {
+    pub line: Line,
+    pub multi: Multi,
+}
+
+// The filters of a section after a frame.
+pub struct Filtered {
+    pub bdi: Filter,
+    pub iae: Filter,
+    pub biae: Filter,
+}
+
+fn wide(x: u8) -> u32
+    ensures { λ r. ⌜ r ≡ x ⌝ }
+{
+    x as u32
+}
+
+// A filter in its two bytes.
+fn filter_at(w: &mut [u8], n: u32, forget: bool, bit: bool) -> Filter
+    requires { ⌜ length (now w) ≡ 2 ⌝ }
+    ensures { λ r. ⌜ (r ≡ filterOf (filterAt (now (w .entry)) 0) n forget bit) × (now (w .exit) ≡ filterBytes (filterOf (filterAt (now (w .entry)) 0) n forget bit)) ⌝ }
+{
+    let run = wide(w[1]);
+    let before = Filter {
+        on: w[0] == 1,
+        run: run,
+    };
+    let after = filter::filter_step(before, n, forget, bit);
+    w[0] = after.on as u8;
+    w[1] = (after.run % 256) as u8;
+    after
+}
+
+// A flag of the second: once raised it stays.
+fn raise(w: &mut [u8], i: usize, more: bool)
+    requires { ⌜ i < length (now w) ⌝ }
+    ensures { λ _. ⌜ now (w .exit) ≡ cond more (set (now (w .entry)) i 1) (now (w .entry)) ⌝ }
+{
+    if more {
+        w[i] = 1;
+    }
+}
+
+// The four flags of the second.
+fn flags_at(w: &mut [u8], near: bool, far: bool, iae: bool, biae: bool)
+    requires { ⌜ length (now w) ≡ 4 ⌝ }
+    ensures { λ _. ⌜ now (w .exit) ≡ flagsIn near far iae biae (now (w .entry)) ⌝ }
+{
+    raise(w, 0, near);
+    raise(w, 1, far);
+    raise(w, 2, iae);
+    raise(w, 3, biae);
+}
+
+// A count of the second, one more.
+fn bump(w: &mut [u8], i: u32, more: bool)
+    ensures { λ _. ⌜ now (w .exit) ≡ countedBy more i (now (w .entry)) ⌝ }
+{
+    if more {
+        words::count_at(w, i, 400000);
+    }
+}
+
+// The two counts of the second.
+fn counts_at(w: &mut [u8], near: bool, far: bool)
+    ensures { λ _. ⌜ now (w .exit) ≡ countsIn near far (now (w .entry)) ⌝ }
+{
+    bump(w, 0, near);
+    bump(w, 1, far);
+}
+
+// The filters of a section.
+fn filters_at(w: &mut [u8], ssf: bool, tim: bool, f: Field) -> Filtered
+    requires { ⌜ length (now w) ≡ 6 ⌝ }
+    ensures { λ r. ⌜ (r ≡ sectionFilters (now (w .entry)) ssf tim f) × (now (w .exit) ≡ filteredBytes (sectionFilters (now (w .entry)) ssf tim f)) ⌝ }
+{
+    let bdi = filter_at(&mut w[0..2], 5, ssf, f.bdi);
+    let iae = filter_at(&mut w[2..4], 5, ssf | tim, f.iae);
+    let biae = filter_at(&mut w[4..6], 3, ssf | tim, f.bei == 11);
+    Filtered {
+        bdi: bdi,
+        iae: iae,
+        biae: biae,
+    }
+}
+
+// A section's other numbers after a frame: dBDI, dIAE and dBIAE, and the second's flags and counts.
+fn section_numbers(w: &mut [u8], ssf: bool, tim: bool, f: Field, sm: u8) -> Filtered
+    requires { ⌜ length (now w) ≡ 29 ⌝ }
+    ensures { λ r. ⌜ (r ≡ sectionFilters (bytesIn 6 0 (now (w .entry))) ssf tim f) × (now (w .exit) ≡ sectionNumbers (now (w .entry)) ssf tim f sm) ⌝ }
+{
+    let far = overhead::far_block(f.bei);
+    let d = filters_at(&mut w[0..6], ssf, tim, f);
+    flags_at(&mut w[10..14], ssf | tim, d.bdi.on, d.iae.on, d.biae.on);
+    counts_at(&mut w[21..29], (1 <= sm) & !ssf, far & !ssf);
+    d
+}
+
+// The section's record after a frame: its front and its names are not written.
+fn section_within(b: &mut [u8], ssf: bool, m: Multi, f: Field, sm: u8) -> SectionStands
+    requires { ⌜ length (now b) ≡ 288 ⌝ }
+    ensures { λ r. ⌜ (r ≡ sectionIn (now (b .entry)) ssf m f) × (now (b .exit) ≡ sectionRecord (now (b .entry)) ssf m f sm) ⌝ }
+{
+    let disabled = b[6] == 1;
+    let deg = b[7] == 1;
+    let tim = cycle::trace_at(b, ssf, m.inmulti, m.number, f.tti);
+    let d = section_numbers(&mut b[35..64], ssf, tim, f, sm);
+    SectionStands {
+        tim: tim,
+        disabled: disabled,
+        bdi: d.bdi.on,
+        iae: d.iae.on,
+        biae: d.biae.on,
+        deg: deg,
+    }
+}
+
+// The section in its record: what stands after a frame. Bytes that are no record are left as they are.
+pub fn section_at(b: &mut [u8], ssf: bool, m: Multi, f: Field, sm: u8) -> SectionStands
+    ensures { λ r. ⌜ SectionAt (now (b .entry)) ssf m f sm r (now (b .exit)) ⌝ }
+{
+    if b.len() == 288 {
+        return section_within(b, ssf, m, f, sm);
+    }
+    SectionStands {
+        tim: false,
+        disabled: false,
+        bdi: false,
+        iae: false,
+        biae: false,
+        deg: false,
+    }
+}
+
+// A STAT in its four bytes.
+fn lay_stat(w: &mut [u8], s: Stat)
+    requires { ⌜ length (now w) ≡ 4 ⌝ }
+    ensures { λ _. ⌜ now (w .exit) ≡ statBytes s ⌝ }
+{
+    w[0] = s.value;
+    w[1] = (s.run % 256) as u8;
+    w[2] = s.known as u8;
+    w[3] = s.accepted;
+}
+
+// A path's other numbers after a frame: dBDI, STAT, and the second's flags and counts.
+fn path_numbers(
+    w: &mut [u8],
+    t: Stat,
+    forget: bool,
+    stops: bool,
+    tim: bool,
+    f: Field,
+    pm: u8,
+) -> Filter
+    requires { ⌜ length (now w) ≡ 29 ⌝ }
+    ensures { λ r. ⌜ (r ≡ pathBdi (bytesIn 2 0 (now (w .entry))) forget f) × (now (w .exit) ≡ pathNumbers (now (w .entry)) t forget stops tim f pm) ⌝ }
+{
+    let far = overhead::far_block(f.bei);
+    let bdi = filter_at(&mut w[0..2], 5, forget, f.bdi);
+    lay_stat(&mut w[6..10], t);
+    flags_at(&mut w[10..14], stops | tim, bdi.on, false, false);
+    counts_at(&mut w[21..29], (1 <= pm) & !stops, far & !stops);
+    bdi
+}
+
+// The path's record after a frame: STAT before its trace and BDI; its front and its names are not written.
+fn path_within(b: &mut [u8], ssf: bool, m: Multi, f: Field, pm: u8) -> PathStands
+    requires { ⌜ length (now b) ≡ 288 ⌝ }
+    ensures { λ r. ⌜ (r ≡ pathIn (now (b .entry)) ssf m f) × (now (b .exit) ≡ pathRecord (now (b .entry)) ssf m f pm) ⌝ }
+{
+    let disabled = b[6] == 1;
+    let deg = b[7] == 1;
+    let run = wide(b[42]);
+    let before = Stat {
+        value: b[41],
+        run: run,
+        known: b[43] == 1,
+        accepted: b[44],
+    };
+    let stat = filter::stat_step(before, ssf, f.stat);
+    let signal = signal::stands_for(stat);
+    let raised = signal::raised_by(signal);
+    let forget = ssf | raised.ais;
+    let stops = ssf | raised.ais | raised.oci | raised.lck;
+    let tim = cycle::trace_at(b, forget, m.inmulti, m.number, f.tti);
+    let bdi = path_numbers(&mut b[35..64], stat, forget, stops, tim, f, pm);
+    PathStands {
+        signal: signal,
+        tim: tim,
+        disabled: disabled,
+        bdi: bdi.on,
+        deg: deg,
+    }
+}
+
+// The path in its record: what stands after a frame. Bytes that are no record are left as they are.
+pub fn path_at(b: &mut [u8], ssf: bool, m: Multi, f: Field, pm: u8) -> PathStands
+    ensures { λ r. ⌜ PathAt (now (b .entry)) ssf m f pm r (now (b .exit)) ⌝ }
+{
+    if b.len() == 288 {
+        return path_within(b, ssf, m, f, pm);
+    }
+    PathStands {
+        signal: Signal::Clear,
+        tim: false,
+        disabled: false,
+        bdi: false,
+        deg: false,
+    }
+}
+
+// Alignment in the line's record: what stands at the line after a frame. Its head is not written.
+pub fn line_at(b: &mut [u8], four: bool, three: bool, mfas: u8, flags: u8) -> LineFrame
+    ensures { λ r. ⌜ LineAt (now (b .entry)) four three mfas flags r (now (b .exit)) ⌝ }
+{
+    let w = codec::strip_in(b, 0);
+    let v = codec::strip_in(b, 32);
+    let head = numbers::head_of(w);
+    let before = numbers::align_of(v);
+    let n = alignment::frames_of(head.k);
+    let after = alignment::align_step(before, n, four, three, mfas);
+    let x = numbers::align_bytes(after);
+    codec::lay_strip(b, 32, x);
+    let line = frame::line_of(after, n, flags);
+    let multi = after.multi;
+    LineFrame {
+        line: line,
+        multi: multi,
+    }
+}
+
+// A frame filed under its head, in the words of the open second.
+pub fn tally_at(b: &mut [u8], head: u8)
+    ensures { λ _. ⌜ now (b .exit) ≡ talliedIn (now (b .entry)) head ⌝ }
+{
+    words::count_at(b, 0, 400000);
+    if head < 10 {
+        let i = wide(head) + 1;
+        words::count_at(b, i, 400000);
+    }
+}
+
+// A layer's record at a mark: its values of the second, which is closed; dDEG is decided by them, and the next second has none.
+pub fn close_at(b: &mut [u8]) -> Blocks
+    ensures { λ r. ⌜ CloseAt (now (b .entry)) r (now (b .exit)) ⌝ }
+{
+    let w = codec::strip_in(b, 0);
+    let v = codec::strip_in(b, 32);
+    let f = numbers::front_of(w);
+    let s = numbers::state_of(v);
+    let open = s.blocks;
+    let done = second::discard(open, s.iaeseen, s.biaeseen);
+    let before = f.deg;
+    let deg = filter::filter_step(before, f.degm, false, f.thr <= done.near.0);
+    let mut front = f;
+    front.deg = deg;
+    let none = Blocks {
+        near: Near(0),
+        far: Far(0),
+        neards: false,
+        fards: false,
+    };
+    let mut state = s;
+    state.blocks = none;
+    state.iaeseen = false;
+    state.biaeseen = false;
+    let x = numbers::front_bytes(front);
+    let y = numbers::state_bytes(state);
+    codec::lay_strip(b, 0, x);
+    codec::lay_strip(b, 32, y);
+    done
+}
+
+// The line's record at a mark: a head, and no frame under any head.
+pub fn open_at(b: &mut [u8], h: Head)
+    ensures { λ _. ⌜ now (b .exit) ≡ openedIn (now (b .entry)) h ⌝ }
+{
+    let x = numbers::head_bytes(h);
+    codec::lay_strip(b, 0, x);
+    words::lay_words(b, 64, [0; 12]);
+}
