@@ -21,11 +21,11 @@ use Rattle.filter.specs.declared.Filter.{Filter}
 use Rattle.filter.specs.declared.Stat.{Stat}
 use Rattle.filter.specs.Filter.{quiet}
 use Rattle.filter.specs.Stat.{noStat}
-use Rattle.numbers.specs.Numbers.{headBytes, headIn, alignBytes, alignIn, frontBytes, stateBytes}
+use Rattle.numbers.specs.Numbers.{headBytes, headIn, alignBytes, alignIn}
 use Rattle.numbers.specs.Held.{Held, heldIn, heldBytes, optionsFrom, layerFrom, heldOf}
 use Rattle.numbers.proofs.Strips as strips
-use Rattle.numbers.proofs.Strips.{Tops, both, from, take-from, from-all, word-stays, headTop, alignTop, frontTop, stateTop, front-stays, state-stays, held-stays}
-use Rattle.image.specs.Image.{countsOf, headOf, sectionHeld, pathHeld, loadOf, Sizes}
+use Rattle.numbers.proofs.Strips.{Tops, both, from, take-from, from-all, word-stays, headTop, alignTop, frontTop, stateTop, held-stays}
+use Rattle.image.specs.Image.{countsOf, headOf, sectionHeld, pathHeld, loadOf}
 
 -- The test, taken apart.
 
@@ -198,19 +198,6 @@ module _ (o : ℕ) (st l : List ℕ) (h : o + 288 ≤ length l) (e : below (fron
   pub state-tops-at : Tops st (bytesIn 32 32 (bytesIn 288 o l))
   state-tops-at = rw (second-strip o 288 l h (omega arith)) (below-all st (drop 32 (bytesIn 64 o l)) (below-rest frontGreatest st (bytesIn 64 o l) e))
 
-  front-stays-at : take 32 (bytesIn 288 o l) ≡ frontBytes (heldIn (bytesIn 288 o l) .front)
-  unfolding heldIn
-  front-stays-at =
-      let r : List ℕ = bytesIn 288 o l in
-      sym (bytes-room 32 0 r (omega (arith, length-in 288 o l))) ∙ sym (front-stays (bytesIn 32 0 r) (length-in 32 0 r) front-wide)
-
-  state-stays-at : below stateTop st ≡ true → take 32 (drop 32 (bytesIn 288 o l)) ≡ stateBytes (heldIn (bytesIn 288 o l) .state)
-  unfolding heldIn
-  state-stays-at t =
-      let r : List ℕ = bytesIn 288 o l in
-      sym (bytes-room 32 32 r (omega (arith, length-in 288 o l)))
-      ∙ sym (state-stays (bytesIn 32 32 r) (length-in 32 32 r) (wider stateTop st (bytesIn 32 32 r) t state-tops-at))
-
   held-stays-at : below stateTop st ≡ true → heldBytes (heldIn (bytesIn 288 o l)) ≡ bytesIn 288 o l
   held-stays-at t =
       let r : List ℕ = bytesIn 288 o l in
@@ -253,21 +240,12 @@ cut-three l e =
     sym (take-append-drop 112 l)
     ∙ ap (λ (r : List ℕ). take 112 l ++ r) (sym (take-append-drop 288 (drop 112 l)) ∙ ap (λ (r : List ℕ). take 288 (drop 112 l) ++ r) (drop-drop 288 112 l))
 
--- the lengths of the three, and the last two as they are read
-pub line-long : (l : List ℕ) → length l ≡ 688 → length (take 112 l) ≡ 112
-line-long l e = length-take-le 112 l (omega arith)
-
+-- the last two as they are read
 pub section-bytes : (l : List ℕ) → length l ≡ 688 → bytesIn 288 112 l ≡ take 288 (drop 112 l)
 section-bytes l e = bytes-room 288 112 l (omega arith)
 
 pub path-bytes : (l : List ℕ) → length l ≡ 688 → bytesIn 288 400 l ≡ drop 400 l
 path-bytes l e = bytes-room 288 400 l (omega arith) ∙ take-all 288 (drop 400 l) (omega (arith, length-drop 400 l))
-
-pub section-long : (l : List ℕ) → length l ≡ 688 → length (take 288 (drop 112 l)) ≡ 288
-section-long l e = length-take-le 288 (drop 112 l) (omega (arith, length-drop 112 l))
-
-pub path-long : (l : List ℕ) → length l ≡ 688 → length (drop 400 l) ≡ 288
-path-long l e = length-drop 400 l ∙ ap (λ (j : ℕ). j - 400) e
 
 -- the line's record in its three
 pub cut-line : (l : List ℕ) → length l ≡ 688 → take 112 l ≡ take 32 l ++ (take 32 (drop 32 l) ++ take 48 (drop 64 l))
@@ -326,20 +304,6 @@ module _ (l : List ℕ) (e : sound l ≡ true) where
 
   -- The section's record, and the path's.
 
-  pub section-front : take 32 (bytesIn 288 112 l) ≡ frontBytes (heldIn (bytesIn 288 112 l) .front)
-  section-front = front-stays-at 112 sectionState l (omega (arith, long)) (sounds l e .section .bytes)
-
-  pub path-front : take 32 (bytesIn 288 400 l) ≡ frontBytes (heldIn (bytesIn 288 400 l) .front)
-  path-front = front-stays-at 400 pathState l (omega (arith, long)) (sounds l e .path .bytes)
-
-  pub section-state : take 32 (drop 32 (bytesIn 288 112 l)) ≡ stateBytes (heldIn (bytesIn 288 112 l) .state)
-  unfolding below
-  section-state = state-stays-at 112 sectionState l (omega (arith, long)) (sounds l e .section .bytes) refl
-
-  pub path-state : take 32 (drop 32 (bytesIn 288 400 l)) ≡ stateBytes (heldIn (bytesIn 288 400 l) .state)
-  unfolding below
-  path-state = state-stays-at 400 pathState l (omega (arith, long)) (sounds l e .path .bytes) refl
-
   pub section-stays : heldBytes (heldIn (bytesIn 288 112 l)) ≡ bytesIn 288 112 l
   unfolding below
   section-stays = held-stays-at 112 sectionState l (omega (arith, long)) (sounds l e .section .bytes) refl
@@ -390,11 +354,6 @@ head-held l = refl
 pub align-held : (l : List ℕ) → loadOf l .layers .align ≡ alignIn (bytesIn 32 32 l)
 unfolding loadOf
 align-held l = refl
-
--- what is read as a record has arrays of their lengths
-pub sizes-in : (r : List ℕ) → Sizes (heldIn r)
-unfolding heldIn
-sizes-in r = record { accepted = length-in 64 64 r; gathered = length-in 64 128 r; previous = length-in 64 192 r; names = length-in 32 256 r }
 
 -- a record with other values in place of those that one layer does not have
 abbrev with-stat : Held → Stat → Held

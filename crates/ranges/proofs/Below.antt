@@ -48,9 +48,6 @@ below-all (g ∷ hs) [] e i = absurd (false≢true e)
 below-all (g ∷ hs) (b ∷ bs) e zero = leb-true b g (and-left (leb b g) (below hs bs) e)
 below-all (g ∷ hs) (b ∷ bs) e (suc i) = below-all hs bs (and-right (leb b g) (below hs bs) e) i
 
-pub below-at : (hs bs : List ℕ) (i : ℕ) → below hs bs ≡ true → i < length bs → getD bs i 0 ≤ getD hs i 0
-below-at hs bs i e h = below-all hs bs e i
-
 -- And back: from each byte's bound, and part by part.
 
 pub at-below : (hs bs : List ℕ) → length bs ≡ length hs → ((i : ℕ) → i < length bs → getD bs i 0 ≤ getD hs i 0) → below hs bs ≡ true
