@@ -1,6 +1,7 @@
 #!/usr/bin/env bash
-# Holds README.md and docs/ to the crates: README's table names each crate; each definition that CLAUSES.md names stands where it says; PROMISES.md
-# names each must-fail edit and each refutation under its crate, and none that is not there. Status 0 where all is so.
+# Holds README.md, docs/ and the header to the crates: README's table names each crate; each definition that CLAUSES.md names stands where it says; the
+# header's bits and words are those of the tables in specs/; PROMISES.md names each must-fail edit and each refutation under its crate, and none that
+# is not there. Status 0 where all is so.
 set -euo pipefail
 cd "$(dirname "$0")/.."
 wrong=0
@@ -20,6 +21,29 @@ while IFS= read -r place; do
         grep -Eq "(pub $name :|pub record $name\b|pub data $name\b|  pub $name :)" "$path" || says "CLAUSES.md: $path does not have $name"
     done
 done < <(grep '^|' docs/CLAUSES.md | grep -oE '[a-z]+/[A-Z][A-Za-z0-9]+( `[A-Za-z0-9]+`(, `[A-Za-z0-9]+`)*)?')
+
+# the header's numbers, against the tables of the statements: a report's bits, and a record's words
+while read -r name from width; do
+    case $width in
+    1) grep -Eq "^#define $name\(r\) otn_report_bit\(r, $from\)$" include/otn.h || says "include/otn.h: $name is not bit $from" ;;
+    *)
+        mask=$(((1 << width) - 1))
+        shift=" >> $from & $mask"
+        [ "$from" = 0 ] && shift=" & $(printf '0x%x' "$mask")"
+        grep -Eq "^static inline unsigned $name\(uint64_t [a-z]+\) \{ return \(unsigned\)\([a-z]+$shift\); \}$" include/otn.h ||
+            says "include/otn.h: $name is not $width bits from $from"
+        ;;
+    esac
+done < <(sed -nE 's/^ *(∷ )?bits "([A-Za-z_]+)" ([0-9]+) ([0-9]+) .*/\2 \3 \4/p' crates/word/specs/Table.antt)
+while read -r name at; do
+    grep -Eq "^    $name = $at\b" include/otn.h || says "include/otn.h: $name is not word $at"
+done < <(sed -nE 's/^ *(∷ )?word "([A-Za-z_]+)" ([0-9]+) .*/\2 \3/p' crates/calls/specs/Words.antt)
+for name in $(grep -oE '^#define [A-Z_]+\(r\) otn_report_bit' include/otn.h | sed -E 's/#define ([A-Z_]+).*/\1/'); do
+    grep -q "bits \"$name\" " crates/word/specs/Table.antt || says "include/otn.h: no table has $name"
+done
+for name in $(sed -n '/^enum otn_figure/,/^}/p' include/otn.h | grep -oE 'OTN_[A-Z_]+'); do
+    grep -q "word \"$name\" " crates/calls/specs/Words.antt || says "include/otn.h: no table has $name"
+done
 
 # the rows of functions: | `crate::name` .. | what | edits | refutations |; those of theorems end in edits as crate/label
 named=$(mktemp)
@@ -50,5 +74,5 @@ for laws in crates/*/proofs/Refuted.antt; do
         grep -qx "$crate/proofs/$law" "$named" || says "PROMISES.md does not name the refutation $law of $crate"
     done < <(sed -nE 's/^ *pub ([^ ]+) :.*/\1/p' "$laws")
 done
-[ "$wrong" = 0 ] && echo "docs: every crate, definition, edit and refutation is named where it stands"
+[ "$wrong" = 0 ] && echo "docs: every crate, definition, number, edit and refutation is named where it stands"
 exit "$wrong"

@@ -1,6 +1,6 @@
 -- IF and OOF are what the frames say. Assumes nothing.
 use mathlib.Core.Path.{_≡_, refl, ap, sym, _∙_, subst, subst⁻¹}
-use mathlib.Core.Bool.{Bool, true, false, cond, _&&_, Bool·beq, true≢false, false≢true}
+use mathlib.Core.Bool.{Bool, true, false, cond, not, _&&_, and-false, Bool·beq, true≢false, false≢true}
 use mathlib.Core.List.{List, [], _∷_, _++_, map, map-append, append-assoc, append-nil, head-eq-of-cons-eq, tail-eq-of-cons-eq}
 use Prim.Native.Nat.{ℕ, zero, suc, _+_, _≤_, _<_}
 use native.Mathlib.Omega.{arith}
@@ -9,14 +9,14 @@ use lib.Dec.{leb, eqb}
 use lib.ListN.{take, drop, replicate, take-append-drop}
 use Rattle.answer.proofs.Cond.{and-left, and-right}
 use Rattle.filter.specs.Filter.{upOf}
-use Rattle.filter.specs.Since.{NoRun}
-use Rattle.filter.proofs.Bounds.{up-plain, up-most}
+use Rattle.filter.specs.Since.{NoRun, row}
+use Rattle.filter.proofs.Bounds.{up-plain, up-most, up-reaches}
 use Rattle.filter.proofs.Rows.{up-from}
-use Rattle.filter.proofs.Runs.{lead, lead-run, run-lead, lead-stop, no-nil, no-more, no-tail, no-lead}
+use Rattle.filter.proofs.Runs.{lead, lead-run, run-lead, row-lead, lead-stop, no-nil, no-more, no-tail, no-lead}
 use Rattle.alignment.proofs.Phases.{Known, goes-on, turns, run, known, said}
 use Rattle.alignment.specs.declared.Framing.{Framing}
 use Rattle.alignment.specs.Alignment.{framingOf}
-use Rattle.alignment.specs.Framed.{Signs, four, threeIn, Framed, since-start, since-five, since-two, framingAfter, FramingIs}
+use Rattle.alignment.specs.Framed.{Signs, four, threeIn, Framed, since-start, since-five, since-two, inFrameBy, framingAfter, FramingIs}
 
 -- the steps, case by case
 abbrev lost : Bool → Framing
@@ -192,8 +192,54 @@ says b l (since-two k y x g q og ox ex ey) =
     seen-now true e o p ex = absurd (true≢false (sym (ap (λ (z : Framing). z .inframe) (comes-in (framingAfter g) x o e)) ∙ p))
     seen-now false e o p ex = stays-out (framingAfter g) x o e ∙ ap lost ex
 
+-- the state with one frame more, as `inFrameBy` says it. IF ends at the fifth in a row without columns 3 to 5
+value-in : (s : Framing) (x : Signs) (m : List Bool) → s .inframe ≡ true → lead false m ≡ s .misses → framed s x .inframe ≡ not (row 5 false (x .three ∷ m))
+unfolding framingOf
+value-in s x m i e = rw (i, row-lead 5 false (x .three ∷ m), e, up-reaches (s .misses) 5) (by (x .three) (leb 5 (suc (s .misses))) refl)
+  where
+    by : (t u : Bool) → leb 5 (suc (s .misses)) ≡ u
+        → cond t (found 0) (cond u (lost false) (found (upOf (s .misses) 5))) .inframe ≡ not (leb 5 (cond (Bool·beq t false) (suc (s .misses)) 0))
+    by true u h = refl
+    by false true h = rw h
+    by false false h = rw h
+
+-- in OOF what is seen is a frame with columns 2 to 5 that was met in OOF, and IF is entered at another
+value-seen : (s : Framing) (x : Signs) → framed s x .inframe ≡ false → framed s x .seen ≡ (four x && not (s .inframe))
+unfolding framingOf
+value-seen s x = by (s .inframe) (four x) (x .three) (eqb (upOf (s .misses) 5) 5) (s .seen)
+  where
+    by : (i f t u d : Bool)
+        → cond i (cond t (found 0) (cond u (lost false) (found (upOf (s .misses) 5)))) (cond (f && d) (found 0) (lost f)) .inframe ≡ false
+        → cond i (cond t (found 0) (cond u (lost false) (found (upOf (s .misses) 5)))) (cond (f && d) (found 0) (lost f)) .seen ≡ (f && not i)
+    by true f true u d o = absurd (true≢false o)
+    by true f false true d o = sym (and-false f)
+    by true f false false d o = absurd (true≢false o)
+    by false true t u true o = absurd (true≢false o)
+    by false true t u false o = refl
+    by false false t u d o = refl
+
+value-out : (s : Framing) (x : Signs) → s .inframe ≡ false → framed s x .inframe ≡ (four x && s .seen)
+unfolding framingOf
+value-out s x o = rw o (by (four x && s .seen))
+  where
+    by : (t : Bool) → cond t (found 0) (lost (four x)) .inframe ≡ t
+    by true = refl
+    by false = refl
+
+value-is : (l : List Signs) → framingAfter l .inframe ≡ inFrameBy l
+unfolding framingAfter inFrameBy
+value-is [] = refl
+value-is (b ∷ []) = value-out (framingAfter []) b refl ∙ and-false (four b)
+value-is (b ∷ (a ∷ l)) = by (inFrameBy (a ∷ l)) (value-is (a ∷ l)) (value-is l)
+  where
+    by : (t : Bool) → framingAfter (a ∷ l) .inframe ≡ t → framingAfter l .inframe ≡ inFrameBy l
+        → framed (framingAfter (a ∷ l)) b .inframe ≡ cond t (not (row 5 false (map threeIn (b ∷ (a ∷ l))))) (four b && (four a && not (inFrameBy l)))
+    by true i e = value-in (framingAfter (a ∷ l)) b (map threeIn (a ∷ l)) i (met-in (a ∷ l) _ (after-any (a ∷ l)) i)
+    by false o e = value-out (framingAfter (a ∷ l)) b o ∙ ap (λ (z : Bool). four b && z) (value-seen (framingAfter l) a o ∙ rw e)
+
 pub framing-is : (l : List Signs) → FramingIs l
 framing-is l = record {
   stands = said framed Begun Lasts at (λ s. s .inframe) Framed law l (framingAfter l) (after-any l);
   only = λ b f. says b l f;
+  value = value-is l;
 }

@@ -4,17 +4,17 @@ use mathlib.Core.Bool.{Bool, true, false, cond, _&&_, false≢true}
 use mathlib.Core.List.{List, [], _∷_, _++_, append-nil, head-eq-of-cons-eq, tail-eq-of-cons-eq}
 use Prim.Native.Nat.{ℕ, suc, _+_, _≤_, _<_}
 use native.Mathlib.Omega.{arith}
-use borrow.Author.Tests.{leb-true, leb-false, ne-eqb}
+use borrow.Author.Tests.{leb-true, leb-false, eq-eqb, ne-eqb}
 use lib.Dec.{leb, eqb}
-use lib.ListN.{drop, replicate}
+use lib.ListN.{replicate}
 use Rattle.filter.specs.Filter.{upOf}
-use Rattle.filter.specs.Since.{NoRun}
-use Rattle.filter.proofs.Bounds.{up-plain}
-use Rattle.filter.proofs.Runs.{lead, lead-run, run-lead, no-nil, no-more, no-tail, no-lead}
+use Rattle.filter.specs.Since.{NoRun, row}
+use Rattle.filter.proofs.Bounds.{up-plain, up-reaches}
+use Rattle.filter.proofs.Runs.{lead, lead-run, run-lead, row-lead, no-nil, no-more, no-tail, no-lead}
 use Rattle.alignment.proofs.Phases.{Known, goes-on, turns, run, known, said}
 use Rattle.alignment.specs.declared.Multi.{Multi}
 use Rattle.alignment.specs.Alignment.{nextOf, lockedAt, unlockedAt, multiOf}
-use Rattle.alignment.specs.Numbered.{Look, follows, NoneFollows, numberAfter, matched, Place, out, number, Numbered, since-start, since-two, since-five, multiAfter, placeOf, MultiIs}
+use Rattle.alignment.specs.Numbered.{Look, succeeds, NoneSucceed, numberAfter, matched, Place, out, number, Fifth, Numbered, since-start, since-two, since-five, matches, placeAfter, places, latest, multiAfter, placeOf, MultiIs, Worked}
 
 -- the steps, case by case
 abbrev looked : Multi → Look → Multi
@@ -65,7 +65,7 @@ out-place (x ∷ l) = by (x .looked)
     by false = refl
 
 -- out of multiframe, whether a frame follows the one before it
-follows-as : (x : Look) (l : List Look) → x .looked ≡ true → (outOf l .known && eqb (x .mfas) (nextOf (outOf l .previous))) ≡ follows x l
+follows-as : (x : Look) (l : List Look) → x .looked ≡ true → (outOf l .known && eqb (x .mfas) (nextOf (outOf l .previous))) ≡ succeeds x l
 follows-as x [] e = refl
 follows-as x (a ∷ l) e = rw e (by (a .looked))
   where
@@ -74,7 +74,7 @@ follows-as x (a ∷ l) e = rw e (by (a .looked))
     by true = refl
     by false = refl
 
-looked-of : (x : Look) (l : List Look) → follows x l ≡ true → x .looked ≡ true
+looked-of : (x : Look) (l : List Look) → succeeds x l ≡ true → x .looked ≡ true
 looked-of x [] e = absurd (false≢true e)
 looked-of x (a ∷ l) e = by (x .looked) e
   where
@@ -82,14 +82,14 @@ looked-of x (a ∷ l) e = by (x .looked) e
     by true e = refl
     by false e = e
 
-stays-out : (x : Look) (l : List Look) → follows x l ≡ false → looked (outOf l) x ≡ outOf (x ∷ l)
+stays-out : (x : Look) (l : List Look) → succeeds x l ≡ false → looked (outOf l) x ≡ outOf (x ∷ l)
 stays-out x l e = by (x .looked) refl
   where
     by : (t : Bool) → x .looked ≡ t → looked (outOf l) x ≡ outOf (x ∷ l)
     by true h = out-looked (outOf l) x (out-place l) h (follows-as x l h ∙ e) ∙ rw h
     by false h = out-unlooked (outOf l) x (out-place l) h ∙ rw h
 
-enters : (x : Look) (l : List Look) → follows x l ≡ true → looked (outOf l) x ≡ lockedAt (x .mfas) 0
+enters : (x : Look) (l : List Look) → succeeds x l ≡ true → looked (outOf l) x ≡ lockedAt (x .mfas) 0
 enters x l e = let h : x .looked ≡ true = looked-of x l e in out-enters (outOf l) x (out-place l) h (follows-as x l h ∙ e)
 
 -- in multiframe, by the number m at its start
@@ -130,20 +130,19 @@ matched-tail m x l q = by (x .looked) refl
     by false e = subst (λ (t : Bool). NoRun 5 false (cond t (eqb (x .mfas) (numberAfter m (x ∷ l)) ∷ matched m l) (matched m l))) e q
 
 -- a fifth mismatch in a row
-five-out : (m : ℕ) (f : Look) (l : List Look) (rest : List Bool) → NoRun 5 false (matched m l) → f .looked ≡ true → matched m (f ∷ l) ≡ replicate 5 false ++ rest
-    → looked (inOf m l) f ≡ unlockedAt true (f .mfas)
-five-out m f l rest q e p =
-    let w : (eqb (f .mfas) (numberAfter m (f ∷ l)) ∷ matched m l) ≡ replicate 5 false ++ rest = rw e at p in
-    let h : eqb (f .mfas) (numberAfter m (f ∷ l)) ≡ false = head-eq-of-cons-eq w in
-    let t : matched m l ≡ replicate 4 false ++ rest = tail-eq-of-cons-eq w in
-    let a : 4 ≤ lead false (matched m l) = run-lead 4 false (matched m l) rest t in
-    let b : lead false (matched m l) < 5 = no-lead 5 false (matched m l) q in
-    let c : lead false (matched m l) ≡ 4 = omega arith in
-    in-fifth (inOf m l) f refl e h (rw (c, up-plain 4 5 (omega arith)))
+five-out : (b : Look) (m : List Look) (f : Look) → Fifth b m f → looked (inOf (b .mfas) m) f ≡ unlockedAt true (f .mfas)
+five-out b m f w =
+    let n : ℕ = b .mfas in
+    let u : matched n (f ∷ m) ≡ eqb (f .mfas) (numberAfter n (f ∷ m)) ∷ matched n m = rw (w .looked) in
+    let v : (eqb (f .mfas) (numberAfter n (f ∷ m)) ∷ matched n m) ≡ replicate 5 false ++ w .rest = sym u ∙ w .five in
+    let h : eqb (f .mfas) (numberAfter n (f ∷ m)) ≡ false = head-eq-of-cons-eq v in
+    let t : matched n m ≡ replicate 4 false ++ w .rest = tail-eq-of-cons-eq v in
+    let c : lead false (matched n m) ≡ 4 = omega (arith, run-lead 4 false (matched n m) (w .rest) t, no-lead 5 false (matched n m) (w .none)) in
+    in-fifth (inOf n m) f refl (w .looked) h (rw (c, up-plain 4 5 (omega arith)))
 
 -- a phase, out of multiframe or in it from a number on, lasts: while no frame follows the one before it; while no five mismatches are in a row
 abbrev Lasts : Place → List Look → List Look → Type 0
-Lasts out l base = NoneFollows l base
+Lasts out l base = NoneSucceed l base
 Lasts (number m) l base = NoRun 5 false (matched m l)
 
 -- the state meanwhile
@@ -153,8 +152,8 @@ at (number m) l base = inOf m l
 
 -- how it began
 data Begun : Place → List Look → Type 0 where
-  out-since : (base : List Look) → ((m : List Look) → NoneFollows m base → Numbered out (m ++ base)) → Begun out base
-  in-since : (b : Look) (g : List Look) → Numbered out g → follows b g ≡ true → Begun (number (b .mfas)) (b ∷ g)
+  out-since : (base : List Look) → ((m : List Look) → NoneSucceed m base → Numbered out (m ++ base)) → Begun out base
+  in-since : (b : Look) (g : List Look) → Numbered out g → succeeds b g ≡ true → Begun (number (b .mfas)) (b ∷ g)
 
 again : (x : Look) (l : List Look) → multiAfter (x ∷ l) ≡ looked (multiAfter l) x
 unfolding multiAfter
@@ -177,9 +176,9 @@ fifth-looked m x l q h false e =
 
 -- one frame more, from either phase
 more : (p : Place) (late base : List Look) (x : Look) → Begun p base → Lasts p late base → Known Begun Lasts at (x ∷ (late ++ base)) (looked (at p late base) x)
-more p late base x (out-since _ stays) q = by (follows x (late ++ base)) refl
+more p late base x (out-since _ stays) q = by (succeeds x (late ++ base)) refl
   where
-    by : (t : Bool) → follows x (late ++ base) ≡ t → Known Begun Lasts at (x ∷ (late ++ base)) (looked (at out late base) x)
+    by : (t : Bool) → succeeds x (late ++ base) ≡ t → Known Begun Lasts at (x ∷ (late ++ base)) (looked (at out late base) x)
     by true e =
         turns looked Begun Lasts at (number (x .mfas)) (x ∷ (late ++ base)) _ (in-since x (late ++ base) (stays late q) e) (no-nil 4 false)
         (enters x (late ++ base) e)
@@ -191,9 +190,8 @@ more p late base x (in-since b g o a) q = by (leb 5 (lead false (matched (b .mfa
     by true e =
         let h : 5 ≤ lead false (matched (b .mfas) (x ∷ late)) = leb-true _ _ e in
         let v : x .looked ≡ true = fifth-looked (b .mfas) x late q h (x .looked) refl in
-        let five : matched (b .mfas) (x ∷ late) ≡ replicate 5 false ++ drop 5 (matched (b .mfas) (x ∷ late)) = lead-run 5 false (matched (b .mfas) (x ∷ late)) h in
-        turns looked Begun Lasts at out (x ∷ (late ++ (b ∷ g))) _ (out-since _ (λ k n. since-five k x late b g _ n o a q v five)) tt
-        (five-out (b .mfas) x late _ q v five ∙ rw v)
+        let w : Fifth b late x = record { none = q; looked = v; rest = _; five = lead-run 5 false (matched (b .mfas) (x ∷ late)) h } in
+        turns looked Begun Lasts at out (x ∷ (late ++ (b ∷ g))) _ (out-since _ (λ k n. since-five k x late b g o a w n)) tt (five-out b late x w ∙ rw v)
     by false e =
         let n : Lasts (number (b .mfas)) (x ∷ late) (b ∷ g) = matched-more (b .mfas) x late (leb-false _ _ e) q in
         goes-on looked Begun Lasts at (number (b .mfas)) late (b ∷ g) x (in-since b g o a) n (keeps (number (b .mfas)) x late (b ∷ g) n)
@@ -227,18 +225,87 @@ runs : (p : Place) (base l : List Look) → multiAfter base ≡ at p [] base →
 runs p = run looked Begun Lasts at multiAfter again p (lasted p) (keeps p)
 
 -- the multiframe that a frame enters that follows one met in OOM
-in-from : (b : Look) (g : List Look) → placeOf (multiAfter g) ≡ out → follows b g ≡ true → multiAfter (b ∷ g) ≡ lockedAt (b .mfas) 0
+in-from : (b : Look) (g : List Look) → placeOf (multiAfter g) ≡ out → succeeds b g ≡ true → multiAfter (b ∷ g) ≡ lockedAt (b .mfas) 0
 in-from b g o a = again b g ∙ ap (λ (z : Multi). looked z b) (out-state g (multiAfter g) (after-any g) o) ∙ enters b g a
 
 says : (p : Place) (l : List Look) → Numbered p l → placeOf (multiAfter l) ≡ p
 unfolding multiAfter
 says p l (since-start _ q) = out-of l _ (ap multiAfter (sym (append-nil l)) ∙ runs out [] l refl q ∙ ap outOf (append-nil l))
 says p l (since-two k b g o a q) = ap placeOf (runs (number (b .mfas)) (b ∷ g) k (in-from b g (says out g o) a) q)
-says p l (since-five k f m b g rest n o a q v five) =
-    let i : multiAfter (m ++ (b ∷ g)) ≡ inOf (b .mfas) m = runs (number (b .mfas)) (b ∷ g) m (in-from b g (says out g o) a) q in
+says p l (since-five k f m b g o a w n) =
+    let i : multiAfter (m ++ (b ∷ g)) ≡ inOf (b .mfas) m = runs (number (b .mfas)) (b ∷ g) m (in-from b g (says out g o) a) (w .none) in
     let u : multiAfter (f ∷ (m ++ (b ∷ g))) ≡ outOf (f ∷ (m ++ (b ∷ g))) =
-    again f (m ++ (b ∷ g)) ∙ ap (λ (z : Multi). looked z f) i ∙ five-out (b .mfas) f m rest q v five ∙ rw v in
+    again f (m ++ (b ∷ g)) ∙ ap (λ (z : Multi). looked z f) i ∙ five-out b m f w ∙ rw (w .looked) in
     out-of (k ++ (f ∷ (m ++ (b ∷ g)))) _ (runs out (f ∷ (m ++ (b ∷ g))) k u n)
 
+-- the state that the frames' places say
+abbrev stateBy : List Look → List Place → Multi
+stateBy l [] = outOf l
+stateBy l (out ∷ ps) = outOf l
+stateBy l (number m ∷ ps) = lockedAt m (lead false (matches l (number m ∷ ps)))
+
+-- with one frame more, from OOM and from IM
+by-out : (x : Look) (l : List Look) (ps : List Place) → looked (outOf l) x ≡ stateBy (x ∷ l) (placeAfter x l (out ∷ ps) ∷ (out ∷ ps))
+unfolding placeAfter matches
+by-out x l ps = by (succeeds x l) refl
+  where
+    by : (t : Bool) → succeeds x l ≡ t → looked (outOf l) x ≡ stateBy (x ∷ l) (placeAfter x l (out ∷ ps) ∷ (out ∷ ps))
+    by true e = enters x l e ∙ rw (e, looked-of x l e, eq-eqb (x .mfas) (x .mfas) refl)
+    by false e = stays-out x l e ∙ rw e
+
+by-in : (x : Look) (l : List Look) (m : ℕ) (ps : List Place)
+    → looked (stateBy l (number m ∷ ps)) x ≡ stateBy (x ∷ l) (placeAfter x l (number m ∷ ps) ∷ (number m ∷ ps))
+unfolding placeAfter matches row
+by-in x l m ps = by (x .looked) refl
+  where
+    s : Multi
+    s = stateBy l (number m ∷ ps)
+
+    r : ℕ
+    r = lead false (matches l (number m ∷ ps))
+
+    full : row 5 false (false ∷ matches l (number m ∷ ps)) ≡ leb 5 (suc r)
+    full = row-lead 5 false (false ∷ matches l (number m ∷ ps))
+
+    by-fifth : x .looked ≡ true → eqb (x .mfas) (nextOf m) ≡ false → (t : Bool) → leb 5 (suc r) ≡ t
+        → looked s x ≡ stateBy (x ∷ l) (placeAfter x l (number m ∷ ps) ∷ (number m ∷ ps))
+    by-fifth e f true h = in-fifth s x refl e f (up-reaches r 5 ∙ h) ∙ rw (e, f, full, h)
+    by-fifth e f false h =
+        let u : upOf r 5 ≡ suc r = omega (arith, up-plain r 5 (omega (arith, leb-false 5 (suc r) h))) in
+        in-miss s x refl e f (up-reaches r 5 ∙ h) ∙ rw (e, f, full, h, u) (rw f)
+
+    by-match : x .looked ≡ true → (t : Bool) → eqb (x .mfas) (nextOf m) ≡ t
+        → looked s x ≡ stateBy (x ∷ l) (placeAfter x l (number m ∷ ps) ∷ (number m ∷ ps))
+    by-match e true f = in-match s x refl e f ∙ rw (e, f) (rw f)
+    by-match e false f = by-fifth e f (leb 5 (suc r)) refl
+
+    by : (t : Bool) → x .looked ≡ t → looked s x ≡ stateBy (x ∷ l) (placeAfter x l (number m ∷ ps) ∷ (number m ∷ ps))
+    by true e = by-match e (eqb (x .mfas) (nextOf m)) refl
+    by false e = in-unlooked s x refl e ∙ rw e
+
+by-more : (x : Look) (l : List Look) (p : Place) (ps : List Place) → looked (stateBy l (p ∷ ps)) x ≡ stateBy (x ∷ l) (placeAfter x l (p ∷ ps) ∷ (p ∷ ps))
+by-more x l out ps = by-out x l ps
+by-more x l (number m) ps = by-in x l m ps
+
+state-by : (l : List Look) → multiAfter l ≡ stateBy l (places l)
+unfolding multiAfter places placeAfter
+state-by [] = refl
+state-by (x ∷ []) = stays-out x [] refl
+state-by (x ∷ (a ∷ l)) = ap (λ (z : Multi). looked z x) (state-by (a ∷ l)) ∙ by-more x (a ∷ l) (placeAfter a l (places l)) (places l)
+
+place-by : (l : List Look) (ps : List Place) → placeOf (stateBy l ps) ≡ latest ps
+place-by l [] = out-of l _ refl
+place-by l (out ∷ ps) = out-of l _ refl
+place-by l (number m ∷ ps) = refl
+
 pub multi-is : (l : List Look) → MultiIs l
-multi-is l = record { stands = said looked Begun Lasts at placeOf Numbered law l (multiAfter l) (after-any l); only = λ p n. says p l n }
+multi-is l = record {
+  stands = said looked Begun Lasts at placeOf Numbered law l (multiAfter l) (after-any l);
+  only = λ p n. says p l n;
+  value = ap placeOf (state-by l) ∙ place-by l (places l);
+}
+
+-- the worked frames, by computing
+pub worked : Worked
+unfolding places placeAfter matches row nextOf
+worked = record { entered = refl; fourth = refl; fifth = refl; again = refl }

@@ -25,7 +25,7 @@ use Rattle.numbers.specs.Held.{heldIn}
 use Rattle.image.specs.Image.{loadOf, bytesOf}
 use Rattle.image.proofs.Parts.{sound-long, bytes-in-bytes}
 use Rattle.word.specs.Report.{reportWord}
-use Rattle.card.specs.Calls.{Provision, freshRefusal, freshBy, freshSup, FreshCall, refusalBy, callRefusal, callAnswer, callSup, StepCall, markRefusal, markSup, figuresAt, markRecord, MarkCall, traceChecks, traceRefused, traceOut, TraceCall}
+use Rattle.card.specs.Calls.{Provision, provisionRefusal, freshRefusal, freshBy, freshSup, FreshCall, refusalBy, callRefusal, callAnswer, callSup, StepCall, markRefusal, markSup, figuresAt, markRecord, MarkCall, traceChecks, traceRefused, traceOut, TraceCall}
 
 -- an answer by value that is one thing where the refusal is 0 and another where it is not has that refusal
 settled : (A : Type 0) (numbered : A → ℕ) (n : ℕ) (x y : A) → numbered x ≡ 0 → numbered y ≡ n → numbered (cond (eqb n 0) x y) ≡ n
@@ -35,14 +35,11 @@ module _ (p : Provision) where
   abbrev byValue : Provisioned
   byValue = provisionOf (p .k) (p .section) (p .path) (p .snames) (p .pnames)
 
-  abbrev byNumber : ℕ
-  byNumber = settingsRefusal (p .k) (p .section) (p .path) (p .snames) (p .pnames)
-
-  pub provision-number : byValue .refusal ≡ byNumber
+  pub provision-number : byValue .refusal ≡ provisionRefusal p
   unfolding provisionOf
-  provision-number = settled Provisioned (λ (a : Provisioned). a .refusal) byNumber _ _ refl refl
+  provision-number = settled Provisioned (λ (a : Provisioned). a .refusal) (provisionRefusal p) _ _ refl refl
 
-  pub provision-taken : byNumber ≡ 0 → byValue ≡ record { refusal = 0; supervisor = freshBy p }
+  pub provision-taken : provisionRefusal p ≡ 0 → byValue ≡ record { refusal = 0; supervisor = freshBy p }
   unfolding provisionOf
   provision-taken e = rw e
 
@@ -195,7 +192,7 @@ module _ (sup : List ℕ) (p : Provision) where
       let z = ne-eqb (length sup) 688 h in
       record { answers = rw z; holds = rw z }
 
-  fresh-by : length sup ≡ 688 → freshRefusal sup p ≡ byNumber p
+  pub fresh-by : length sup ≡ 688 → freshRefusal sup p ≡ provisionRefusal p
   unfolding freshRefusal settingsRefusal
   fresh-by h = rw (eq-eqb (length sup) 688 h)
 

@@ -26,7 +26,7 @@ use Rattle.frame.specs.Layers.{layersOf, sectionOf, pathOf}
 use Rattle.ranges.specs.Sound.{sound}
 use Rattle.numbers.specs.Numbers.{headBytes, alignBytes}
 use Rattle.numbers.specs.Held.{heldBytes}
-use Rattle.image.specs.Image.{headOf as lineHead, countsOf, linePieces, sectionHeld, pathHeld, bytesOf, loadOf, Sizes, Arrays}
+use Rattle.image.specs.Image.{lineHead, countsOf, linePieces, sectionHeld, pathHeld, bytesOf, loadOf, Sizes, Arrays}
 use Rattle.image.proofs.Bytes.{counts-long, held-long}
 use Rattle.image.proofs.Ranges.{arrays-of, same-ranges, round-trip}
 use Rattle.word.specs.Report.{reportWord}

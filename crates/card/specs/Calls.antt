@@ -11,14 +11,15 @@ use Rattle.words.specs.Words.{flat}
 use Rattle.codec.specs.Over.{poured}
 use Rattle.causes.specs.Causes.{reportOf}
 use Rattle.second.specs.Second.{closedOf, figuresOf}
-use Rattle.settings.specs.Settings.{settingsChecks, optionsOf}
+use Rattle.settings.specs.Settings.{settingsChecks, settingsRefusal, optionsOf}
 use Rattle.supervisor.specs.Supervisor.{freshOf, stepChecks, standsAfter, frameOf, nextSecond, layerAt}
 use Rattle.settings.specs.declared.Request.{Request}
+use Rattle.settings.specs.declared.Settings.{Settings}
 use Rattle.supervisor.specs.declared.Supervisor.{Supervisor}
 use Rattle.ranges.specs.Sound.{sound}
 use Rattle.numbers.specs.Numbers.{headBytes, alignBytes}
 use Rattle.numbers.specs.Held.{heldBytes}
-use Rattle.image.specs.Image.{headOf, countsOf, sectionHeld, pathHeld, loadOf, bytesOf}
+use Rattle.image.specs.Image.{lineHead, countsOf, sectionHeld, pathHeld, loadOf, bytesOf}
 use Rattle.word.specs.Report.{reportWord}
 
 -- by a refusal's number: what is made where it is 0, what is kept where it is not
@@ -50,8 +51,15 @@ freshChecks sup p = check 17 (eqb (length sup) 688) ∷ settingsChecks (p .k) (p
 unfoldable pub freshRefusal : List ℕ → Provision → ℕ
 freshRefusal sup p = firstOf (freshChecks sup p)
 
+-- the settings' refusal, 5 to 10, and the settings where it is 0
+abbrev pub provisionRefusal : Provision → ℕ
+provisionRefusal p = settingsRefusal (p .k) (p .section) (p .path) (p .snames) (p .pnames)
+
+abbrev pub settingsBy : Provision → Settings
+settingsBy p = record { k = p .k; section = optionsOf (p .section) (p .snames); path = optionsOf (p .path) (p .pnames) }
+
 abbrev pub freshBy : Provision → Supervisor
-freshBy p = freshOf (record { k = p .k; section = optionsOf (p .section) (p .snames); path = optionsOf (p .path) (p .pnames) })
+freshBy p = freshOf (settingsBy p)
 
 unfoldable pub freshSup : List ℕ → Provision → List ℕ
 freshSup sup p = unless (freshRefusal sup p) (bytesOf (freshBy p)) sup
@@ -80,7 +88,7 @@ callRefusal sup overhead flags sm pm = firstOf (callChecks sup overhead flags sm
 -- the bytes of a supervisor whose layers are those after a frame, and in which the frame is not yet filed
 abbrev pub unfiled : Supervisor → Supervisor → List ℕ
 unfiled before after =
-    (headBytes (headOf after) ++ alignBytes (after .layers .align))
+    (headBytes (lineHead after) ++ alignBytes (after .layers .align))
     ++ (flat (countsOf (before .second)) ++ (heldBytes (sectionHeld after) ++ (heldBytes (pathHeld after) ++ [])))
 
 unfoldable pub callAnswer : List ℕ → List ℕ → ℕ → ℕ → ℕ → ℕ

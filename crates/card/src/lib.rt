@@ -173,7 +173,7 @@ pub extern "C" fn otn_mark(sup: &mut [u8], out: &mut [u8]) -> u64
 {
     if ranges::is_sound(sup) {
         let w = codec::strip_in(sup, 0);
-        let head = numbers::head_of(w);
+        let head = numbers::head_in(w);
         if head.seconds < 4294967295 {
             let number = head.seconds + 1;
             let figures = mark_in(sup, head.k, number);
@@ -204,7 +204,7 @@ pub extern "C" fn otn_trace(sup: &[u8], layer: u8, out: &mut [u8]) -> u64
     if ranges::is_sound(sup) {
         let at = record_at(layer);
         let w = codec::strip_in(sup, at + 32);
-        let state = numbers::state_of(w);
+        let state = numbers::state_in(w);
         let thirteen = checked(13, state.known, 0);
         let twelve = checked(12, out.len() == 64, thirteen);
         let refusal = checked(11, layer <= 1, twelve);

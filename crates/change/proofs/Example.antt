@@ -6,7 +6,7 @@ use lib.ListN.{replicate}
 use Rattle.names.specs.Names.{sameIn, sameTrace}
 use Rattle.signal.specs.declared.Signal.the-variants.{Oci}
 use Rattle.causes.specs.Causes.{ssfOf, timActs, headOf, reportOf, nothingStands, noReport}
-use Rattle.listing.specs.Text.{decimalIn, fieldOf, fieldsOf}
+use Rattle.listing.specs.Text.{decimalIn, spaced, fieldsOf}
 use Rattle.listing.specs.Bytes.{bytes}
 use Rattle.conditions.specs.Conditions.{conditions, changeOf, changesOf, conditionChanges}
 use Rattle.change.specs.declared.Shown.{Shown}
@@ -45,13 +45,13 @@ open-path = record {
 
 raised : changeLine 1 3 12 quiet open-path
     ≡ bytes "F 1 3 12 +IF +IM +PM.dOCI +PM.aTSF +PM.aBDI +PM.cOCI head=7 SM.trace=\"A.BBBBBBBBBBBBBBBBBBBBBBBBBBBBBBBBBBBBBBBBBBBBBBBBBBBBBBBBBBBBBB\"\n"
-unfolding changeLine frameLine beginningOf allChanges conditionChanges conditions traceChange toldOf readableOf printableOf headChange changesOf changeOf fieldsOf fieldOf decimalIn reportOf noReport headOf timActs ssfOf sameTrace sameIn
+unfolding changeLine frameLine beginningOf allChanges conditionChanges conditions traceChange toldOf readableOf printableOf headChange changesOf changeOf fieldsOf spaced decimalIn reportOf noReport headOf timActs ssfOf sameTrace sameIn
 raised = refl
 
 cleared : changeLine 1 4 13 open-path quiet ≡ bytes "F 1 4 13 -IF -IM -PM.dOCI -PM.aTSF -PM.aBDI -PM.cOCI head=0 -SM.trace\n"
-unfolding changeLine frameLine beginningOf allChanges conditionChanges conditions traceChange toldOf readableOf printableOf headChange changesOf changeOf fieldsOf fieldOf decimalIn reportOf noReport headOf timActs ssfOf sameTrace sameIn
+unfolding changeLine frameLine beginningOf allChanges conditionChanges conditions traceChange toldOf readableOf printableOf headChange changesOf changeOf fieldsOf spaced decimalIn reportOf noReport headOf timActs ssfOf sameTrace sameIn
 cleared = refl
 
 as-it-was : changeLine 1 5 14 open-path open-path ≡ []
-unfolding changeLine frameLine beginningOf allChanges conditionChanges conditions traceChange toldOf readableOf printableOf headChange changesOf changeOf fieldsOf fieldOf decimalIn reportOf noReport headOf timActs ssfOf sameTrace sameIn
+unfolding changeLine frameLine beginningOf allChanges conditionChanges conditions traceChange toldOf readableOf printableOf headChange changesOf changeOf fieldsOf spaced decimalIn reportOf noReport headOf timActs ssfOf sameTrace sameIn
 as-it-was = refl

@@ -14,7 +14,7 @@ use Rattle.names.specs.Names.{sameIn, sameTrace}
 use Rattle.causes.specs.Causes.{ssfOf, timActs, headOf, reportOf, noReport}
 use Rattle.causes.specs.declared.Report.{Report}
 use Rattle.supervisor.specs.declared.Supervisor.{Supervisor}
-use Rattle.listing.specs.Text.{fitted, decimalIn, fieldOf, fieldsOf}
+use Rattle.listing.specs.Text.{fitted, decimalIn, spaced, fieldsOf}
 use Rattle.conditions.specs.Conditions.{conditions, changeOf, changesOf, conditionChanges}
 use Rattle.change.specs.declared.Shown.{Shown}
 use Rattle.change.specs.Change.{
@@ -64,7 +64,7 @@ pub delete-printed : (κs : Lfts 1) (a : Dens κs change-kinds.ps) (r : ℕ) (s 
     → a .0 ≡ 1 → a .1 .0 ≡ 3 → a .1 .1 .0 ≡ 12 → a .1 .1 .1 .0 ≡ quiet → a .1 .1 .1 .1 .0 ≡ told
     → now (a .1 .1 .1 .1 .1 .0) ≡ replicate 1024 0 → a .1 .1 .1 .1 .1 .1 .0 ≡ 0 → getD (now (s .1 .1 .1 .1 .1 .0)) 19 0 ≡ 127
     → change-reads.Post κs a r s → ⊥
-unfolding fitted over changeLine frameLine beginningOf allChanges conditionChanges conditions traceChange toldOf readableOf printableOf headChange changesOf changeOf fieldsOf fieldOf decimalIn reportOf noReport headOf timActs ssfOf sameTrace sameIn
+unfolding fitted over changeLine frameLine beginningOf allChanges conditionChanges conditions traceChange toldOf readableOf printableOf headChange changesOf changeOf fieldsOf spaced decimalIn reportOf noReport headOf timActs ssfOf sameTrace sameIn
 delete-printed κs a r s second frame total before after d at o p =
     let e : getD (now (s .1 .1 .1 .1 .1 .0)) 19 0 ≡ 46 = ap (λ (l : List ℕ). getD l 19 0) (rw (second, frame, total, before, after, d, at) at (p .2)) in
     let h : _≡_ {A = ℕ} 127 46 = sym o ∙ e in

@@ -1,10 +1,10 @@
 -- What bounds a counter and a filter's run, whatever they were before. Assumes nothing.
-use Prim.Native.Nat.{ℕ, _+_, _≤_, _<_}
-use mathlib.Core.Path.{_≡_}
-use mathlib.Core.Bool.{Bool, Bool·beq}
+use Prim.Native.Nat.{ℕ, suc, _+_, _≤_, _<_}
+use mathlib.Core.Path.{_≡_, refl}
+use mathlib.Core.Bool.{Bool, true, false, cond, Bool·beq}
 use native.Mathlib.Omega.{arith}
-use lib.Dec.{ltb, eqb}
-use borrow.Author.Tests.{ltb-true, lt-ltb, eqb-false}
+use lib.Dec.{leb, ltb, eqb}
+use borrow.Author.Tests.{leb-true, leb-false, ltb-true, lt-ltb, eqb-false, eq-eqb, ne-eqb}
 use Rattle.answer.proofs.Cond.{by-cond}
 use Rattle.filter.specs.declared.Filter.{Filter}
 use Rattle.filter.specs.declared.Stat.{Stat}
@@ -20,6 +20,19 @@ up-most run n = by-cond (λ (x : ℕ). x ≤ n) (ltb run n) (λ e. let h : run <
 pub up-plain : (run n : ℕ) → run < n → upOf run n ≡ run + 1
 unfolding upOf
 up-plain run n h = rw (lt-ltb run n h)
+
+-- one more comes to the bound exactly where the plain count does
+pub up-reaches : (run n : ℕ) → eqb (upOf run n) n ≡ leb n (suc run)
+unfolding upOf
+up-reaches run n = by (leb n (suc run)) refl
+  where
+    by : (t : Bool) → leb n (suc run) ≡ t → eqb (cond (ltb run n) (run + 1) n) n ≡ t
+    by true e =
+        let h : n ≤ suc run = leb-true n (suc run) e in
+        by-cond (λ (x : ℕ). eqb x n ≡ true) (ltb run n) (λ u. let k : run < n = ltb-true run n u in eq-eqb (run + 1) n (omega arith)) (λ _. eq-eqb n n refl)
+    by false e =
+        let h : suc run < n = leb-false n (suc run) e in
+        rw (lt-ltb run n (omega arith)) (ne-eqb (run + 1) n (λ p. omega (arith, p)))
 
 -- a run is below n
 pub filter-most : (f : Filter) (n m : ℕ) (forget bit : Bool) → n ≤ m + 1 → filterOf f n forget bit .run ≤ m

@@ -1,14 +1,14 @@
 -- Laws of runs in lists of Bools: how many at the front are alike, and that no n in a row are. Assumes nothing.
-use mathlib.Core.Path.{_≡_, refl, ap, subst⁻¹}
-use mathlib.Core.Bool.{Bool, true, false, cond, Bool·beq}
+use mathlib.Core.Path.{_≡_, refl, ap, sym, _∙_, subst⁻¹}
+use mathlib.Core.Bool.{Bool, true, false, cond, _&&_, Bool·beq}
 use mathlib.Core.List.{List, [], _∷_, _++_, tail-eq-of-cons-eq, nil≢cons}
 use Prim.Native.Nat.{ℕ, zero, suc, _≤_, _<_, zero-le, suc-le-suc}
 use native.Mathlib.Nat.{le-of-suc-le-suc, not-suc-le-zero}
 use native.Mathlib.Omega.{arith}
 use borrow.Author.Tests.{leb-true, leb-false}
-use lib.Dec.{leb}
+use lib.Dec.{leb, leb·zero, leb·suc-zero, leb·suc-suc}
 use lib.ListN.{drop, replicate}
-use Rattle.filter.specs.Since.{NoRun}
+use Rattle.filter.specs.Since.{NoRun, row}
 
 -- how many at the front are b
 abbrev pub lead : Bool → List Bool → ℕ
@@ -34,6 +34,17 @@ run-lead n b l e p = subst⁻¹ (λ (m : List Bool). n ≤ lead b m) p (go n)
     go : (n : ℕ) → n ≤ lead b (replicate n b ++ e)
     go zero = zero-le
     go (suc n) = rw (beq-self b) (suc-le-suc (go n))
+
+-- the latest n are all b where the front has n of them
+pub row-lead : (n : ℕ) (b : Bool) (l : List Bool) → row n b l ≡ leb n (lead b l)
+unfolding row
+row-lead zero b l = sym (leb·zero (lead b l))
+row-lead (suc n) b [] = sym (leb·suc-zero n)
+row-lead (suc n) b (x ∷ l) = by (Bool·beq x b) (row-lead n b l)
+  where
+    by : (t : Bool) → row n b l ≡ leb n (lead b l) → (t && row n b l) ≡ leb (suc n) (cond t (suc (lead b l)) 0)
+    by true e = e ∙ sym (leb·suc-suc n (lead b l))
+    by false e = sym (leb·suc-zero n)
 
 -- more at the end takes none from the front
 pub lead-mono : (b : Bool) (c r : List Bool) → lead b c ≤ lead b (c ++ r)

@@ -1,18 +1,18 @@
--- A filter of n and n without its counter: it is on exactly where `On` says. Assumes nothing.
-use mathlib.Core.Path.{_≡_, refl, ap, _∙_}
-use mathlib.Core.Logic.{_↔_}
+-- A filter of n and n without its counter: it is on exactly where `On` and `onBy` say. Assumes nothing.
+use mathlib.Core.Path.{_≡_, refl, ap, sym, _∙_}
 use mathlib.Core.Bool.{Bool, true, false, not, cond, true≢false, false≢true}
 use mathlib.Core.List.{List, [], _∷_, _++_, head-eq-of-cons-eq, tail-eq-of-cons-eq, nil≢cons}
 use Prim.Native.Nat.{ℕ, suc, _+_, _≤_, _<_, zero-le, suc-le-suc}
 use native.Mathlib.Omega.{arith}
-use borrow.Author.Tests.{eqb-true, eqb-false}
+use borrow.Author.Tests.{eqb-true, eqb-false, le-leb, lt-leb}
 use lib.Dec.{eqb}
 use lib.ListN.{drop, replicate}
+use Rattle.answer.proofs.Cond.{by-cond}
 use Rattle.filter.specs.declared.Filter.{Filter}
 use Rattle.filter.specs.Filter.{upOf, quiet, filterOf}
-use Rattle.filter.specs.Since.{NoRun, On, Given, filterAfter, bitsSince}
+use Rattle.filter.specs.Since.{NoRun, On, Given, filterAfter, bitsSince, row, onBy, FilterIs}
 use Rattle.filter.proofs.Bounds.{up-plain}
-use Rattle.filter.proofs.Runs.{lead, lead-run, run-lead, lead-stop, no-nil, no-more, no-tail}
+use Rattle.filter.proofs.Runs.{lead, lead-run, run-lead, row-lead, lead-stop, no-nil, no-more, no-tail}
 
 -- n 0s at the front: not on
 zeros-off : (n : ℕ) (l : List Bool) → suc n ≤ lead false l → On (suc n) l → ⊥
@@ -20,12 +20,29 @@ zeros-off n l h o =
     let k : suc n ≤ lead false (o .since) = rw (← (lead-stop (o .since) (replicate n true ++ o .before)), ← (o .is)) h in
     o .none [] (drop (suc n) (o .since)) (lead-run (suc n) false (o .since) k)
 
+-- `onBy` with one bit more: the bit, where the latest n are alike, and otherwise what it was
+on-more : (n : ℕ) (x : Bool) (l : List Bool) → onBy (suc n) (x ∷ l) ≡ cond (row (suc n) x (x ∷ l)) x (onBy (suc n) l)
+unfolding onBy row
+on-more n true l = refl
+on-more n false l = refl
+
+-- so a bit like it keeps it, the n-th in a row is taken over, and before the n-th it stays
+on-alike : (n : ℕ) (x : Bool) (l : List Bool) → onBy (suc n) l ≡ x → onBy (suc n) (x ∷ l) ≡ x
+on-alike n x l e = on-more n x l ∙ by-cond (λ (z : Bool). z ≡ x) (row (suc n) x (x ∷ l)) (λ _. refl) (λ _. e)
+
+on-taken : (n : ℕ) (x : Bool) (l : List Bool) → suc n ≤ lead x (x ∷ l) → onBy (suc n) (x ∷ l) ≡ x
+on-taken n x l h = on-more n x l ∙ rw (row-lead (suc n) x (x ∷ l), le-leb (suc n) (lead x (x ∷ l)) h)
+
+on-kept : (n : ℕ) (x : Bool) (l : List Bool) → lead x (x ∷ l) < suc n → onBy (suc n) (x ∷ l) ≡ onBy (suc n) l
+on-kept n x l h = on-more n x l ∙ rw (row-lead (suc n) x (x ∷ l), lt-leb (suc n) (lead x (x ∷ l)) h)
+
 -- the filter after the bits, and what is known of it
 record Known (n : ℕ) (l : List Bool) (s : Filter) : Type 0 where
   run-is : s .run ≡ lead (not (s .on)) l
   small : s .run < n
   up : s .on ≡ true → On n l
   down : s .on ≡ false → On n l → ⊥
+  value : onBy n l ≡ s .on
 
 -- off stays off where the front is no n 1s
 off-cons : (n : ℕ) (x : Bool) (l : List Bool) → (On (suc n) l → ⊥) → ((a : List Bool) → x ∷ l ≡ replicate (suc n) true ++ a → ⊥)
@@ -46,6 +63,7 @@ zero-while-on n l r true e k =
       small = suc-le-suc zero-le;
       up = λ z. absurd (false≢true z);
       down = λ _. zeros-off n (false ∷ l) (omega (arith, k .run-is, h));
+      value = on-taken n false l (omega (arith, k .run-is, h));
     }
 zero-while-on n l r false e k =
     let u : upOf r (suc n) ≡ r + 1 = up-plain r (suc n) (k .small) in
@@ -63,6 +81,7 @@ zero-while-on n l r false e k =
         none = no-more (suc n) false false (o .since) (omega (arith, k .run-is, z, h)) (o .none);
       };
       down = λ x. absurd (true≢false x);
+      value = on-kept n false l (omega (arith, k .run-is, h)) ∙ k .value;
     }
 
 one-while-off : (n : ℕ) (l : List Bool) (r : ℕ) (t : Bool) → eqb (upOf r (suc n)) (suc n) ≡ t → Known (suc n) l (record { on = false; run = r })
@@ -81,6 +100,7 @@ one-while-off n l r true e k =
         none = no-nil n false;
       };
       down = λ x. absurd (true≢false x);
+      value = on-taken n true l (omega (arith, k .run-is, h));
     }
 one-while-off n l r false e k =
     let u : upOf r (suc n) ≡ r + 1 = up-plain r (suc n) (k .small) in
@@ -93,6 +113,7 @@ one-while-off n l r false e k =
       down = λ _ o. off-cons n true l (k .down refl)
           (λ a p. omega (arith, k .run-is, h, run-lead (suc n) true (true ∷ l) a p))
           (o .since) (o .before) (o .is) (o .none);
+      value = on-kept n true l (omega (arith, k .run-is, h)) ∙ k .value;
     }
 
 known-step : (n : ℕ) (l : List Bool) (o : Bool) (r : ℕ) (x : Bool) → Known (suc n) l (record { on = o; run = r })
@@ -104,6 +125,7 @@ known-step n l true r true k = record {
   up = λ e. let o : On (suc n) l = k .up refl in
       record { since = true ∷ o .since; before = o .before; is = ap (λ (m : List Bool). true ∷ m) (o .is); none = no-more (suc n) false true (o .since) (suc-le-suc zero-le) (o .none) };
   down = λ e. absurd (true≢false e);
+  value = on-alike n true l (k .value);
 }
 known-step n l true r false k = zero-while-on n l r (eqb (upOf r (suc n)) (suc n)) refl k
 known-step n l false r true k = one-while-off n l r (eqb (upOf r (suc n)) (suc n)) refl k
@@ -112,6 +134,7 @@ known-step n l false r false k = record {
   small = suc-le-suc zero-le;
   up = λ z. absurd (false≢true z);
   down = λ _ o. off-cons n false l (k .down refl) (λ a p. false≢true (head-eq-of-cons-eq p)) (o .since) (o .before) (o .is) (o .none);
+  value = on-alike n false l (k .value);
 }
 
 off-start : (n : ℕ) → On (suc n) [] → ⊥
@@ -122,7 +145,8 @@ off-start n o = go (o .since) (o .is)
     go (y ∷ c) p = nil≢cons p
 
 known-none : (n : ℕ) → Known (suc n) [] quiet
-known-none n = record { run-is = refl; small = suc-le-suc zero-le; up = λ z. absurd (false≢true z); down = λ _. off-start n }
+unfolding onBy
+known-none n = record { run-is = refl; small = suc-le-suc zero-le; up = λ z. absurd (false≢true z); down = λ _. off-start n; value = refl }
 
 filter-forgets : (f : Filter) (n : ℕ) (x : Bool) → filterOf f n true x ≡ quiet
 unfolding filterOf
@@ -147,5 +171,7 @@ bool-cases true f = refl
 bool-cases false f = absurd (f refl)
 
 -- the filter of n after any frames
-pub filter-on : (n : ℕ) (gs : List Given) → (filterAfter (suc n) gs .on ≡ true) ↔ On (suc n) (bitsSince gs)
-filter-on n gs = (known n gs .up, λ o. bool-cases _ (λ e. known n gs .down e o))
+pub filter-on : (n : ℕ) (gs : List Given) → FilterIs (suc n) gs
+filter-on n gs =
+    let k : Known (suc n) (bitsSince gs) (filterAfter (suc n) gs) = known n gs in
+    record { on = (k .up, λ o. bool-cases _ (λ e. k .down e o)); value = sym (k .value) }

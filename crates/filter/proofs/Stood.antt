@@ -7,7 +7,7 @@ use lib.Dec.{eqb}
 use Rattle.filter.specs.declared.Stat.{Stat}
 use Rattle.filter.specs.Filter.{upOf}
 use Rattle.filter.specs.Stat.{noStat, inRow, statOf}
-use Rattle.filter.specs.Stood.{none, value, lastThree, Told, valuesSince, statAfter, foundIn, StatIs}
+use Rattle.filter.specs.Stood.{none, value, lastThree, Told, valuesSince, statAfter, valueIn, StatIs}
 
 -- how often the first value stands at the front, and 3 at most
 abbrev front : List ℕ → ℕ
@@ -24,7 +24,7 @@ firstOr (a ∷ l) d = a
 record Kept (l : List ℕ) (s : Stat) : Type 0 where
   run : s .run ≡ front l
   value : s .value ≡ firstOr l 0
-  found : foundIn s ≡ lastThree l
+  found : valueIn s ≡ lastThree l
 
 -- the run with one value more
 row-is : (l : List ℕ) (s : Stat) (v : ℕ) → s .run ≡ front l → s .value ≡ firstOr l 0 → inRow s v ≡ front (v ∷ l)
@@ -64,7 +64,7 @@ three (a ∷ (b ∷ l)) v = by (eqb v a) (eqb a b)
     by true false = refl
     by false u = refl
 
-found-step : (s : Stat) (v : ℕ) → foundIn (statOf s false v) ≡ cond (eqb (inRow s v) 3) (value v) (foundIn s)
+found-step : (s : Stat) (v : ℕ) → valueIn (statOf s false v) ≡ cond (eqb (inRow s v) 3) (value v) (valueIn s)
 unfolding statOf
 found-step s v = by (eqb (inRow s v) 3)
   where

@@ -8,12 +8,12 @@ use lib.Dec.{eqb}
 use Rattle.filter.specs.declared.Stat.{Stat}
 use Rattle.filter.specs.Stat.{noStat, statOf}
 
-pub data Found : Type 0 where
-  none : Found
-  value : ℕ → Found
+pub data AcceptedValue : Type 0 where
+  none : AcceptedValue
+  value : ℕ → AcceptedValue
 
 -- the latest three, if they are alike; otherwise what stood a frame earlier
-abbrev pub lastThree : List ℕ → Found
+abbrev pub lastThree : List ℕ → AcceptedValue
 lastThree [] = none
 lastThree (a ∷ []) = none
 lastThree (a ∷ (b ∷ [])) = none
@@ -34,9 +34,9 @@ unfoldable pub statAfter : List Told → Stat
 statAfter [] = noStat
 statAfter (x ∷ l) = statOf (statAfter l) (x .forget) (x .value)
 
-abbrev pub foundIn : Stat → Found
-foundIn s = cond (s .known) (value (s .accepted)) none
+abbrev pub valueIn : Stat → AcceptedValue
+valueIn s = cond (s .known) (value (s .accepted)) none
 
 -- the law
 abbrev pub StatIs : List Told → Type 0
-StatIs l = foundIn (statAfter l) ≡ lastThree (valuesSince l)
+StatIs l = valueIn (statAfter l) ≡ lastThree (valuesSince l)

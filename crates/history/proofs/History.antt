@@ -8,10 +8,8 @@ use lib.Dec.{eqb, ltb}
 use borrow.Author.Tests.{ltb-true, eq-eqb, ne-eqb, eqb-true}
 use Rattle.answer.proofs.Cond.{by-cond, cond-under}
 use Rattle.supervisor.specs.Supervisor.{freshOf, stepRefusal, stepOf, nextSecond, markOf}
-use Rattle.history.specs.History.{Event, frame, mark, framed, eventOf, after, refusalOf, Accepted, Call, does, reads, answerOf, handedBack, handed, accepted, Follows, Bytes}
-use Rattle.history.specs.Ranges.{Ranged}
-use Rattle.settings.specs.Ranges.{SettingsIn}
-use Rattle.settings.specs.declared.Settings.{Settings}
+use Rattle.history.specs.History.{Event, frame, mark, framed, eventOf, after, refusalOf, Accepted, Call, does, reads, answerOf, handedBack, handed, accepted, Follows}
+use Rattle.history.specs.Ranges.{Ranged, Bytes, AlwaysRanged}
 use Rattle.supervisor.specs.declared.Supervisor.{Supervisor}
 use Rattle.supervisor.specs.declared.Stepped.{Stepped}
 use Rattle.supervisor.specs.declared.Marked.{Marked}
@@ -100,5 +98,5 @@ after-ranged s [] a b i = i
 after-ranged s (frame f ∷ h) a b i = after-ranged (framed s f) h (a .1) (b .1) (step-ranged s (f .overhead) (f .flags) (f .sm) (f .pm) (b .0) i)
 after-ranged s (mark ∷ h) a b i = after-ranged (nextSecond s) h (a .1) b (mark-ranged s (seconds-left s (a .0)) i)
 
-pub always-ranged : (p : Settings) → SettingsIn p → (h : List Event) → Accepted (freshOf p) h → Bytes h → Ranged (after (freshOf p) h)
+pub always-ranged : AlwaysRanged
 always-ranged p i h a b = after-ranged (freshOf p) h a b (fresh-ranged p i)

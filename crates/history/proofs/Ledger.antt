@@ -19,7 +19,7 @@ use Rattle.answer.specs.Bits.{flag}
 use Rattle.answer.proofs.Bits.{flag-most}
 use Rattle.supervisor.specs.Supervisor.{freshOf, stepChecks, stepRefusal, frameOf, nextSecond, markOf}
 use Rattle.history.specs.History.{Frame, Event, frame, mark, standsAt, framed, eventOf, after, refusalOf, Accepted}
-use Rattle.history.specs.Ledger.{Question, tally, some, under, sectionNear, sectionFar, sectionNearDs, sectionFarDs, sectionIae, sectionBiae, pathNear, pathFar, pathNearDs, pathFarDs, sumOf, Says, Begins, at-start, after-mark, Since, lineOf, marks, Demand3}
+use Rattle.history.specs.Ledger.{Question, tally, some, under, sectionNear, sectionFar, sectionNearDs, sectionFarDs, sectionIae, sectionBiae, pathNear, pathFar, pathNearDs, pathFarDs, sumOf, Says, Begins, at-start, after-mark, Since, lineFigures, marks, EveryDemand3}
 use Rattle.causes.specs.declared.Standing.{Standing}
 use Rattle.second.specs.declared.Near.{Near}
 use Rattle.second.specs.declared.Far.{Far}
@@ -261,7 +261,7 @@ seconds-after s (frame f ∷ h) = seconds-after (framed s f) h
 seconds-after s (mark ∷ h) = omega (arith, seconds-after (nextSecond s) h)
 
 -- the twenty figures
-figures-are : (n : ℕ) (s : Supervisor) (fs : List Frame) (c : Second) → Says s fs c → figuresOf n c ≡ lineOf n s fs
+figures-are : (n : ℕ) (s : Supervisor) (fs : List Frame) (c : Second) → Says s fs c → figuresOf n c ≡ lineFigures n s fs
 figures-are n s fs c y =
     simp (
       y .frames,
@@ -291,7 +291,7 @@ unfolding markOf
 mark-figures s e = rw (lt-ltb (s .seconds) 4294967295 (seconds-left s e))
 
 -- Demand 3
-pub demand-3 : (p : Settings) (h : List Event) → Accepted (freshOf p) h → Demand3 p h
+pub demand-3 : EveryDemand3
 demand-3 p h a =
     let o : Since h = since-of h in
     let split : Accepted (freshOf p) (o .before ++ map frame (o .frames)) = rw (o .is) at a in

@@ -1,5 +1,5 @@
 -- A frame and a mark keep every number of a supervisor in its range, and a fresh one has them there. Assumes nothing.
-use Prim.Native.Nat.{ℕ, zero, suc, _%_, _≤_, _<_}
+use Prim.Native.Nat.{ℕ, zero, suc, _%_, _≤_, _<_, zero-le}
 use mathlib.Core.Path.{_≡_, refl}
 use mathlib.Core.Bool.{Bool, false, _&&_, _||_}
 use mathlib.Core.List.{List, [], _∷_}
@@ -21,13 +21,13 @@ use Rattle.alignment.specs.declared.Multi.{Multi}
 use Rattle.alignment.specs.Alignment.{framesOf, framingOf, lofOf, nextOf, multiOf, lomOf, alignOf}
 use Rattle.layer.specs.declared.Layer.{Layer}
 use Rattle.names.specs.Names.{sameTrace}
-use Rattle.layer.specs.Layer.{withTrace, equalOf, closedOf, gatheredAt, byteOf, traceOf, layerOf, timOf, freshLayer}
+use Rattle.layer.specs.Layer.{withTrace, equalOf, closedCycle, gatheredAt, byteOf, traceOf, layerOf, timOf, freshLayer}
 use Rattle.signal.specs.Signal.{standsFor, isAis}
 use Rattle.causes.specs.Causes.{ssfOf, timActs, headOf}
 use Rattle.frame.specs.Layers.{lineOf, sectionOf, sectionStands, pathOf, layersOf}
 use Rattle.second.specs.Second.{nearOf, farOf, oneFrame, oneUnder, blocksOf, sectionShows, pathShows, countOf, freshSecond}
 use Rattle.supervisor.specs.Supervisor.{freshOf, frameOf, standsAfter, degraded, nextSecond}
-use Rattle.history.specs.Ranges.{AlignmentIn, LayerIn, SectionIn, PathIn, LayersIn, BlocksIn, AllAtMost, SecondIn, Ranged}
+use Rattle.history.specs.Ranges.{AlignmentIn, LayerIn, SectionIn, PathIn, LayersIn, BlocksIn, AllAtMost, IsBytes, SecondIn, Ranged}
 use Rattle.causes.specs.declared.Standing.{Standing}
 use Rattle.second.specs.declared.Near.{Near}
 use Rattle.second.specs.declared.Far.{Far}
@@ -114,8 +114,8 @@ equal-in : (l : Layer) → equalOf l ≤ 3
 unfolding equalOf
 equal-in l = by-cond (λ (x : ℕ). x ≤ 3) (sameTrace (l .gathered) (l .previous)) (λ _. up-most (l .equal) 3) (λ _. omega arith)
 
-closed-in : (l : Layer) → LayerIn l → LayerIn (closedOf l)
-unfolding closedOf
+closed-in : (l : Layer) → LayerIn l → LayerIn (closedCycle l)
+unfolding closedCycle
 closed-in l i =
     by-cond LayerIn (eqb (equalOf l) 3)
     (λ _. record { equal = equal-in l; bdi = i .bdi; deg = i .deg; accepted = i .gathered; gathered = i .gathered; previous = i .gathered })
@@ -193,6 +193,11 @@ layers-in s l o flags h k i =
     }
 
 -- the second
+pub most-at : (n : ℕ) (l : List ℕ) (i : ℕ) → AllAtMost n l → getD l i 0 ≤ n
+most-at n [] i a = zero-le
+most-at n (x ∷ l) zero a = a .0
+most-at n (x ∷ l) (suc i) a = most-at n l i (a .1)
+
 at-most-at : (n : ℕ) (l : List ℕ) (i x : ℕ) → x ≤ n → AllAtMost n l → AllAtMost n (set l i x)
 at-most-at n [] i x h a = tt
 at-most-at n (y ∷ l) zero x h a = (h, a .1)
@@ -229,11 +234,15 @@ unfolding overheadOf fieldOf
 stat-seven o = omega arith
 
 -- an accepted frame
-pub step-ranged : (s : Supervisor) (overhead : List ℕ) (flags sm pm : ℕ) → overheadOf overhead .mfas ≤ 255 → Ranged s → Ranged (frameOf s overhead flags sm pm)
+mfas-byte : (o : List ℕ) → IsBytes o → overheadOf o .mfas ≤ 255
+unfolding overheadOf
+mfas-byte o b = most-at 255 o 6 b
+
+pub step-ranged : (s : Supervisor) (overhead : List ℕ) (flags sm pm : ℕ) → IsBytes overhead → Ranged s → Ranged (frameOf s overhead flags sm pm)
 unfolding frameOf
 step-ranged s overhead flags sm pm h i = record {
   settings = i .settings;
-  layers = layers-in (s .settings) (s .layers) (overheadOf overhead) flags h (stat-seven overhead) (i .layers);
+  layers = layers-in (s .settings) (s .layers) (overheadOf overhead) flags (mfas-byte overhead h) (stat-seven overhead) (i .layers);
   second = count-in (s .second) (standsAfter s overhead flags) (overheadOf overhead) sm pm (i .second);
   seconds = i .seconds;
 }

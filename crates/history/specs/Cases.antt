@@ -1,7 +1,7 @@
 -- "Frames to be proved together" (document 01), the page's worked example, and what these leave open: one table, one statement.
 -- Assumes nothing.
 use Prim.Native.Nat.{ℕ, zero, suc, _+_, _%_}
-use mathlib.Core.Bool.{Bool, true, false, not, _&&_, _||_}
+use mathlib.Core.Bool.{Bool, true, false, not, _&&_, Bool·beq}
 use mathlib.Core.List.{List, [], _∷_, _++_}
 use lib.Dec.{eqb, T}
 use lib.ListN.{replicate}
@@ -9,12 +9,12 @@ use Rattle.overhead.specs.Overhead.{threeOf, fourOf, fieldOf, overheadOf, farBl
 use Rattle.filter.specs.Filter.{upOf, filterOf}
 use Rattle.filter.specs.Stat.{inRow, statOf}
 use Rattle.alignment.specs.Alignment.{framesOf, framingOf, lofOf, nextOf, multiOf, lomOf, alignOf}
-use Rattle.names.specs.Names.{sameIn, sameTrace, comparedOf}
-use Rattle.layer.specs.Layer.{equalOf, closedOf, byteOf, traceOf, layerOf, timOf}
+use Rattle.names.specs.Names.{same, sameIn, sameTrace, comparedOf}
+use Rattle.layer.specs.Layer.{equalOf, closedCycle, byteOf, traceOf, layerOf, timOf}
 use Rattle.signal.specs.Signal.{signalOf, standsFor, isAis}
 use Rattle.causes.specs.Causes.{ssfOf, timActs, headOf, reportOf, noReport}
 use Rattle.frame.specs.Layers.{lineOf, sectionOf, sectionStands, pathOf, pathStands, layersOf, standingOf}
-use Rattle.second.specs.Second.{nearOf, farOf, oneFrame, oneUnder, blocksOf, countOf, discardOf, closedOf as closedSecond}
+use Rattle.second.specs.Second.{nearOf, farOf, oneFrame, oneUnder, blocksOf, countOf, discardOf, closedOf}
 use Rattle.supervisor.specs.Supervisor.{freshOf, stepRefusal, standsAfter, frameOf, stepOf, nextSecond, markOf}
 use Rattle.history.specs.History.{Event, frame, mark}
 use Rattle.causes.specs.declared.Report.{Report}
@@ -108,12 +108,6 @@ itself n = n
 abbrev zeroth : ℕ → ℕ
 zeroth n = 0
 
-abbrev same : List ℕ → List ℕ → Bool
-same [] [] = true
-same [] (y ∷ ys) = false
-same (x ∷ xs) [] = false
-same (x ∷ xs) (y ∷ ys) = eqb x y && same xs ys
-
 -- what a row looks at
 abbrev inFrame : Seen → Bool
 inFrame x = x .report .standing .line .inframe
@@ -130,14 +124,12 @@ lom x = x .report .standing .line .lom
 abbrev head : ℕ → Seen → Bool
 head n x = eqb (x .report .head) n
 
-abbrev bdi : Seen → Bool
-bdi x = x .report .standing .section .bdi && x .report .standing .path .bdi
+-- dBDI of the section and of the path; far-end blocks of the section and of the path
+abbrev bdis : Bool → Bool → Seen → Bool
+bdis section path x = Bool·beq (x .report .standing .section .bdi) section && Bool·beq (x .report .standing .path .bdi) path
 
-abbrev noBdi : Seen → Bool
-noBdi x = not (x .report .standing .section .bdi || x .report .standing .path .bdi)
-
-abbrev farBlocks : ℕ → Seen → Bool
-farBlocks n x = eqb (x .supervisor .second .section .far .0) n && eqb (x .supervisor .second .path .far .0) n
+abbrev farBlocks : ℕ → ℕ → Seen → Bool
+farBlocks section path x = eqb (x .supervisor .second .section .far .0) section && eqb (x .supervisor .second .path .far .0) path
 
 abbrev biae : Seen → Bool
 biae x = x .report .standing .section .biae
@@ -172,10 +164,18 @@ rows =
     ∷ row plain (c3 ++ times 5 (zeros 0 0)) (λ x. not (inFrame x))  -- (e)
     ∷ row plain (c3 ++ (good 2 3 0 7 ++ good 1 5 0 1)) (λ x. head 0 x && not (isAis (x .report .standing .path .signal)))  -- (f)
     ∷ row plain (c3 ++ good 3 3 0 7) (λ x. head 6 x)  -- (g)
-    ∷ row plain (c3 ++ good 4 3 8 8) (λ x. noBdi x)  -- (h)
-    ∷ row plain (c3 ++ good 5 3 8 8) (λ x. bdi x)  -- (i)
-    ∷ row plain (c3 ++ good 1 3 0x80 0x80) (λ x. farBlocks 1 x)  -- (j): 8 is counted
-    ∷ row plain (c3 ++ good 1 3 0x90 0x90) (λ x. farBlocks 0 x)  -- and 9 not
+    ∷ row plain (c3 ++ good 4 3 8 8) (λ x. bdis false false x)  -- (h): in each layer, and in one alone
+    ∷ row plain (c3 ++ good 4 3 8 0) (λ x. bdis false false x)
+    ∷ row plain (c3 ++ good 4 3 0 8) (λ x. bdis false false x)
+    ∷ row plain (c3 ++ good 5 3 8 8) (λ x. bdis true true x)  -- (i)
+    ∷ row plain (c3 ++ good 5 3 8 0) (λ x. bdis true false x)
+    ∷ row plain (c3 ++ good 5 3 0 8) (λ x. bdis false true x)
+    ∷ row plain (c3 ++ good 1 3 0x80 0x80) (λ x. farBlocks 1 1 x)  -- (j): 8 is counted
+    ∷ row plain (c3 ++ good 1 3 0x80 0) (λ x. farBlocks 1 0 x)
+    ∷ row plain (c3 ++ good 1 3 0 0x80) (λ x. farBlocks 0 1 x)
+    ∷ row plain (c3 ++ good 1 3 0x90 0x90) (λ x. farBlocks 0 0 x)  -- and 9 not
+    ∷ row plain (c3 ++ good 1 3 0x80 0x90) (λ x. farBlocks 1 0 x)
+    ∷ row plain (c3 ++ good 1 3 0x90 0x80) (λ x. farBlocks 0 1 x)
     ∷ row plain (zeros 3 0 ∷ []) (λ x. head 1 x)  -- (k)
     ∷ row plain (c3 ++ good 2 3 0xB0 0) (λ x. not (biae x))  -- (l)
     ∷ row plain (c3 ++ good 3 3 0xB0 0) (λ x. biae x)
@@ -198,9 +198,9 @@ rows =
     ∷ row (named false) (traced 193 254 zeroth 7) (λ x. head 6 x && isAis (x .report .standing .path .signal))
     ∷ row (named false) (traced 194 254 zeroth 7) (λ x. head 5 x && not (isAis (x .report .standing .path .signal)))
     -- a refused frame between the second and the third BDI changes nothing
-    ∷ row plain (c3 ++ (good 2 3 8 8 ++ (zeros 4 0 ∷ good 2 5 8 8))) (λ x. noBdi x)
+    ∷ row plain (c3 ++ (good 2 3 8 8 ++ (zeros 4 0 ∷ good 2 5 8 8))) (λ x. bdis false false x)
     ∷ row plain (c3 ++ (good 2 3 8 8 ++ (zeros 4 0 ∷ []))) (λ x. eqb (x .refusal) 2)
-    ∷ row plain (c3 ++ (good 2 3 8 8 ++ (zeros 4 0 ∷ good 3 5 8 8))) (λ x. bdi x)
+    ∷ row plain (c3 ++ (good 2 3 8 8 ++ (zeros 4 0 ∷ good 3 5 8 8))) (λ x. bdis true true x)
     -- dDEG with DEGM 2: a discarded second is not bad and ends the row; two bad ones raise; an empty and an all-failed one clear
     ∷ row plain (bad ++ (discarded ++ bad)) (λ x. not (degradedNow x))
     ∷ row plain (bad ++ (discarded ++ (bad ++ bad))) (λ x. degradedNow x)
@@ -213,7 +213,7 @@ start p = record { supervisor = freshOf p; refusal = 0; report = noReport; figur
 
 -- the definitions that a row computes with are opened here alone
 unfoldable pub holds : Row → Bool
-unfolding seenAfter stepOf stepRefusal standsAfter frameOf nextSecond markOf noReport reportOf headOf ssfOf timActs lineOf sectionOf sectionStands pathOf pathStands layersOf standingOf nearOf farOf oneFrame oneUnder blocksOf countOf discardOf closedSecond threeOf fourOf fieldOf overheadOf farBlock upOf filterOf inRow statOf framesOf framingOf lofOf nextOf multiOf lomOf alignOf sameIn sameTrace equalOf closedOf byteOf traceOf layerOf comparedOf timOf signalOf standsFor
+unfolding seenAfter stepOf stepRefusal standsAfter frameOf nextSecond markOf noReport reportOf headOf ssfOf timActs lineOf sectionOf sectionStands pathOf pathStands layersOf standingOf nearOf farOf oneFrame oneUnder blocksOf countOf discardOf closedOf threeOf fourOf fieldOf overheadOf farBlock upOf filterOf inRow statOf framesOf framingOf lofOf nextOf multiOf lomOf alignOf same sameIn sameTrace equalOf closedCycle byteOf traceOf layerOf comparedOf timOf signalOf standsFor
 holds r = (r .shows) (seenAfter (start (r .settings)) (r .acts))
 
 unfoldable pub allHold : List Row → Bool

@@ -1,13 +1,13 @@
 -- Histories: lists of calls in their order of time, what they leave, and which were accepted. Assumes nothing.
-use Prim.Native.Nat.{ℕ, _≤_}
+use Prim.Native.Nat.{ℕ}
 use mathlib.Core.Path.{_≡_}
 use mathlib.Core.Bool.{cond}
 use mathlib.Core.List.{List, [], _∷_, _++_}
 use lib.Dec.{eqb, ltb}
-use Rattle.overhead.specs.Overhead.{overheadOf}
-use Rattle.supervisor.specs.Supervisor.{stepRefusal, standsAfter, frameOf, stepOf, nextSecond, markOf, tracedOf}
+use Rattle.supervisor.specs.Supervisor.{freshOf, stepRefusal, standsAfter, frameOf, stepOf, nextSecond, markOf, tracedOf}
 use Rattle.causes.specs.declared.Standing.{Standing}
 use Rattle.causes.specs.declared.Report.{Report}
+use Rattle.settings.specs.declared.Settings.{Settings}
 use Rattle.supervisor.specs.declared.Supervisor.{Supervisor}
 
 -- one frame: its overhead's bytes, its flags byte, the violation counts of SM and PM
@@ -37,6 +37,10 @@ eventOf s mark = nextSecond s
 unfoldable pub after : Supervisor → List Event → Supervisor
 after s [] = s
 after s (e ∷ es) = after (eventOf s e) es
+
+-- the supervisor that a history reaches from fresh, under the settings p
+abbrev pub reached : Settings → List Event → Supervisor
+reached p h = after (freshOf p) h
 
 -- the refusal of an event, 0 where it is accepted
 unfoldable pub refusalOf : Supervisor → Event → ℕ
@@ -91,9 +95,3 @@ pub record Follows (s : Supervisor) (before : List Call) : Type 0 where
   pub takes : (e : Event) → refusalOf (handed s before) e ≡ 0 → handed s (before ++ (does e ∷ [])) ≡ eventOf (handed s before) e
   pub refused : (e : Event) → (refusalOf (handed s before) e ≡ 0 → ⊥) → handed s (before ++ (does e ∷ [])) ≡ handed s before
   pub only : (layer : ℕ) → handed s (before ++ (reads layer ∷ [])) ≡ handed s before
-
--- the bytes of every frame are bytes, as every call's are
-abbrev pub Bytes : List Event → Type 0
-Bytes [] = Unit {0}
-Bytes (frame f ∷ es) = (overheadOf (f .overhead) .mfas ≤ 255) × Bytes es
-Bytes (mark ∷ es) = Bytes es

@@ -10,7 +10,7 @@ use Rattle.causes.specs.Causes.{ssfOf, pathSsf, pathDown, headOf}
 use Rattle.second.specs.Second.{closedOf}
 use Rattle.answer.specs.Bits.{flag}
 use Rattle.supervisor.specs.Supervisor.{freshOf, markOf}
-use Rattle.history.specs.History.{Frame, Event, frame, mark, standsAt, framed, after, refusalOf}
+use Rattle.history.specs.History.{Frame, Event, frame, mark, standsAt, framed, reached, refusalOf, Accepted}
 use Rattle.causes.specs.declared.Standing.{Standing}
 use Rattle.second.specs.declared.Second.{Second}
 use Rattle.settings.specs.declared.Settings.{Settings}
@@ -101,8 +101,8 @@ pub record Since (h : List Event) : Type 0 where
   pub is : h ≡ before ++ map frame frames
 
 -- the figures of a line S, by the second's number and its frames
-abbrev pub lineOf : ℕ → Supervisor → List Frame → List ℕ
-lineOf n s fs =
+abbrev pub lineFigures : ℕ → Supervisor → List Frame → List ℕ
+lineFigures n s fs =
     let iae : Bool = some sectionIae s fs in
     let biae : Bool = some sectionIae s fs || some sectionBiae s fs in
     n ∷ length fs
@@ -122,6 +122,10 @@ marks (mark ∷ h) = 1 + marks h
 -- are those of the line
 pub record Demand3 (p : Settings) (h : List Event) : Type 0 where
   pub since : Since h
-  pub says : Says (after (freshOf p) (since .before)) (since .frames) (closedOf (after (freshOf p) h .second))
-  pub figures : refusalOf (after (freshOf p) h) mark ≡ 0
-      → markOf (after (freshOf p) h) .figures ≡ lineOf (marks h + 1) (after (freshOf p) (since .before)) (since .frames)
+  pub says : Says (reached p (since .before)) (since .frames) (closedOf (reached p h .second))
+  pub figures : refusalOf (reached p h) mark ≡ 0
+      → markOf (reached p h) .figures ≡ lineFigures (marks h + 1) (reached p (since .before)) (since .frames)
+
+-- of every accepted history
+abbrev pub EveryDemand3 : Type 0
+EveryDemand3 = (p : Settings) (h : List Event) → Accepted (freshOf p) h → Demand3 p h

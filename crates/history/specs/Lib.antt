@@ -1,4 +1,4 @@
-pub mod Ranges
 pub mod History
+pub mod Ranges
 pub mod Ledger
 pub mod Cases

@@ -6,12 +6,15 @@ use lib.ListN.{length}
 use Rattle.alignment.specs.declared.Alignment.{Alignment}
 use Rattle.layer.specs.declared.Layer.{Layer}
 use Rattle.settings.specs.Ranges.{SettingsIn}
+use Rattle.settings.specs.declared.Settings.{Settings}
 use Rattle.second.specs.declared.Blocks.{Blocks}
 use Rattle.second.specs.declared.Second.{Second}
 use Rattle.frame.specs.declared.SectionState.{SectionState}
 use Rattle.frame.specs.declared.PathState.{PathState}
 use Rattle.frame.specs.declared.Layers.{Layers}
+use Rattle.supervisor.specs.Supervisor.{freshOf}
 use Rattle.supervisor.specs.declared.Supervisor.{Supervisor}
+use Rattle.history.specs.History.{Event, frame, mark, reached, Accepted}
 
 pub record AlignmentIn (a : Alignment) : Type 0 where
   pub misses : a .framing .misses ≤ 4
@@ -67,3 +70,17 @@ pub record Ranged (s : Supervisor) : Type 0 where
   pub layers : LayersIn (s .layers)
   pub second : SecondIn (s .second)
   pub seconds : s .seconds ≤ 4294967295
+
+-- each number is a byte's, at most 255, as those of every call are
+abbrev pub IsBytes : List ℕ → Type 0
+IsBytes l = AllAtMost 255 l
+
+-- the overhead of every frame is bytes
+abbrev pub Bytes : List Event → Type 0
+Bytes [] = Unit {0}
+Bytes (frame f ∷ es) = IsBytes (f .overhead) × Bytes es
+Bytes (mark ∷ es) = Bytes es
+
+-- after every accepted history from fresh, under settings in range: none meets refusal 17
+abbrev pub AlwaysRanged : Type 0
+AlwaysRanged = (p : Settings) → SettingsIn p → (h : List Event) → Accepted (freshOf p) h → Bytes h → Ranged (reached p h)

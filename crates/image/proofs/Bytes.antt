@@ -18,7 +18,7 @@ use Rattle.supervisor.specs.declared.Supervisor.{Supervisor}
 use Rattle.numbers.specs.declared.State.{State}
 use Rattle.numbers.specs.Numbers.{headBytes, alignBytes, frontBytes, stateBytes}
 use Rattle.numbers.specs.Held.{Held, heldPieces, heldBytes}
-use Rattle.image.specs.Image.{countsOf, headOf, linePieces, sectionHeld, pathHeld, bytesOf, Sizes, Arrays, tracePieces, heldWith, piecesOf, Stored}
+use Rattle.image.specs.Image.{countsOf, lineHead, linePieces, sectionHeld, pathHeld, bytesOf, Sizes, Arrays, tracePieces, heldWith, piecesOf, Stored}
 
 -- Each piece has its width.
 
@@ -63,7 +63,7 @@ store-all b s x h t =
 
 -- Pieces laid one after the other, by the lists between.
 
-pub line-laid : (s : Supervisor) (h a c b0 b1 b2 b3 : List ℕ) → h ≡ headBytes (headOf s) → a ≡ alignBytes (s .layers .align) → c ≡ countsOf (s .second)
+pub line-laid : (s : Supervisor) (h a c b0 b1 b2 b3 : List ℕ) → h ≡ headBytes (lineHead s) → a ≡ alignBytes (s .layers .align) → c ≡ countsOf (s .second)
     → b1 ≡ laid b0 0 h → b2 ≡ laid b1 32 a → b3 ≡ laid b2 64 (flat c) → b3 ≡ lays b0 0 (linePieces s)
 line-laid s h a c b0 b1 b2 b3 p q r e1 e2 e3 = e3 ∙ rw (e2, e1, r, q, p)
 

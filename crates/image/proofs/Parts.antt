@@ -25,7 +25,7 @@ use Rattle.numbers.specs.Numbers.{headBytes, headIn, alignBytes, alignIn}
 use Rattle.numbers.specs.Held.{Held, heldIn, heldBytes, optionsFrom, layerFrom, heldOf}
 use Rattle.numbers.proofs.Strips as strips
 use Rattle.numbers.proofs.Strips.{Tops, both, from, take-from, from-all, word-stays, headTop, alignTop, frontTop, stateTop, held-stays}
-use Rattle.image.specs.Image.{countsOf, headOf, sectionHeld, pathHeld, loadOf}
+use Rattle.image.specs.Image.{countsOf, lineHead, sectionHeld, pathHeld, loadOf}
 
 -- The test, taken apart.
 
@@ -347,7 +347,7 @@ module _ (l : List ℕ) (e : sound l ≡ true) where
 
 -- What is read from bytes, and the records of what is read.
 
-pub head-held : (l : List ℕ) → headOf (loadOf l) ≡ headIn (bytesIn 32 0 l)
+pub head-held : (l : List ℕ) → lineHead (loadOf l) ≡ headIn (bytesIn 32 0 l)
 unfolding loadOf
 head-held l = refl
 

@@ -3,7 +3,7 @@
 use mathlib.Core.Path.{_≡_, refl, sym, ap, _∙_}
 use mathlib.Core.Bool.{true}
 use mathlib.Core.List.{List, [], _∷_, _++_, append-nil, append-assoc}
-use Prim.Native.Nat.{ℕ, zero, suc, _+_, _%_, _≤_, _<_, zero-le}
+use Prim.Native.Nat.{ℕ, _+_, _%_, _≤_, _<_}
 use native.Mathlib.Omega.{arith}
 use lib.ListN.{length, getD, take, drop, replicate, length-append}
 use lib.Seq.{getD-take, take-at}
@@ -23,13 +23,14 @@ use Rattle.settings.specs.declared.Options.{Options}
 use Rattle.second.specs.declared.Second.{Second}
 use Rattle.supervisor.specs.declared.Supervisor.{Supervisor}
 use Rattle.settings.specs.Ranges.{OptionsIn}
-use Rattle.history.specs.Ranges.{AlignmentIn, LayerIn, SectionIn, PathIn, BlocksIn, AllAtMost, SecondIn, Ranged}
+use Rattle.history.specs.Ranges.{AlignmentIn, LayerIn, SectionIn, PathIn, BlocksIn, SecondIn, Ranged}
+use Rattle.history.proofs.Ranges.{most-at}
 use Rattle.numbers.specs.declared.Head.{Head}
 use Rattle.numbers.specs.declared.State.{State}
 use Rattle.numbers.specs.Numbers.{headBytes, headIn, alignBytes, alignIn, frontBytes, stateBytes}
 use Rattle.numbers.specs.Held.{Held, heldIn, heldBytes, optionsFrom, layerFrom}
 use Rattle.numbers.proofs.Strips.{both, AlignFits, FrontFits, StateFits, head-back, align-back, from-all, held-back}
-use Rattle.image.specs.Image.{countsOf, headOf, linePieces, sectionHeld, pathHeld, bytesOf, supervisorFrom, loadOf, Arrays, heldWith}
+use Rattle.image.specs.Image.{countsOf, lineHead, linePieces, sectionHeld, pathHeld, bytesOf, supervisorFrom, loadOf, Arrays, heldWith}
 use Rattle.image.specs.Ranges.{SameRanges, RoundTrip}
 use Rattle.image.proofs.Bytes.{counts-long, held-sized, held-long, length-bytes}
 use Rattle.image.proofs.Parts.{bytes-in-bytes, Layered, Sounds, sounds, sound-long, headGreatest, alignGreatest, frontGreatest, sectionState, pathState, first-of, second-of, first-strip, second-strip, head-tops, align-tops, front-tops-at, state-tops-at, section-tops, path-tops, counts-most, cut-three, cut-line, section-bytes, path-bytes, head-held, align-held, counts-held, section-held, path-held, head-stays, align-stays, counts-stay, section-stays, path-stays}
@@ -230,11 +231,6 @@ layer-tested p l t st i j b e =
     )
 
 -- the counts
-most-at : (n : ℕ) (l : List ℕ) (i : ℕ) → AllAtMost n l → getD l i 0 ≤ n
-most-at n [] i a = zero-le
-most-at n (x ∷ xs) zero a = a .0
-most-at n (x ∷ xs) (suc i) a = most-at n xs i (a .1)
-
 counts-tested : (c : Second) → SecondIn c → countsRanged (countsOf c) ≡ true
 counts-tested c i =
     let m : (k : ℕ) → getD (c .heads) k 0 ≤ 400000 = λ k. most-at 400000 (c .heads) k (i .heads) in
@@ -264,7 +260,7 @@ arrays-of s r = record {
 
 abbrev partsOf : Supervisor → List Piece
 partsOf s =
-    piece 32 (headBytes (headOf s)) ∷ piece 32 (alignBytes (s .layers .align)) ∷ piece 48 (flat (countsOf (s .second)))
+    piece 32 (headBytes (lineHead s)) ∷ piece 32 (alignBytes (s .layers .align)) ∷ piece 48 (flat (countsOf (s .second)))
     ∷ piece 288 (heldBytes (sectionHeld s)) ∷ piece 288 (heldBytes (pathHeld s)) ∷ []
 
 joined-parts : (s : Supervisor) → joined (partsOf s) ≡ bytesOf s
@@ -315,10 +311,10 @@ module _ (s : Supervisor) (r : Ranged s) where
       ∙ ap (bytesIn 64 0) e
       ∙ band-of (frontBytes (h .front)) (stateBytes (h .state)) rest refl refl
 
-  line-band : bytesIn 64 0 (bytesOf s) ≡ headBytes (headOf s) ++ alignBytes (s .layers .align)
+  line-band : bytesIn 64 0 (bytesOf s) ≡ headBytes (lineHead s) ++ alignBytes (s .layers .align)
   line-band =
       let rest : List ℕ = flat (countsOf (s .second)) ++ (heldBytes (sectionHeld s) ++ (heldBytes (pathHeld s) ++ [])) in
-      ap (bytesIn 64 0) (sym (joined-parts s)) ∙ band-of (headBytes (headOf s)) (alignBytes (s .layers .align)) rest refl refl
+      ap (bytesIn 64 0) (sym (joined-parts s)) ∙ band-of (headBytes (lineHead s)) (alignBytes (s .layers .align)) rest refl refl
 
   tested-of : sound (bytesOf s) ≡ true
   unfolding sound
@@ -329,7 +325,7 @@ module _ (s : Supervisor) (r : Ranged s) where
         counts-bytes (s .second),
         line-band,
         counts-at,
-        line-tested (headOf s) (s .layers .align) (countsOf (s .second)) (r .settings .k-least) (r .settings .k) (r .layers .align) (counts-tested (s .second) (r .second)),
+        line-tested (lineHead s) (s .layers .align) (countsOf (s .second)) (r .settings .k-least) (r .settings .k) (r .layers .align) (counts-tested (s .second) (r .second)),
         layer-band 112 (sectionHeld s) (omega arith) (part-at 3),
         layer-tested (s .settings .section) (s .layers .section .layer) (sectionHeld s .state) sectionState (r .settings .section) (r .layers .section .layer) (r .second .section) (section-tested s (r .layers .section)),
         layer-band 400 (pathHeld s) (omega arith) (part-at 4),
@@ -370,7 +366,7 @@ module _ (s : Supervisor) (r : Ranged s) where
   unfolding loadOf
   back-of =
       let a : AlignFits (s .layers .align) = record { misses = omega arith; mismatches = omega arith; total = omega arith; good = omega arith; lom = omega arith } in
-      from-parts (ap headIn (part-at 0) ∙ head-back (headOf s) (omega arith)) (ap alignIn (part-at 1) ∙ align-back (s .layers .align) a) counts-at section-back path-back
+      from-parts (ap headIn (part-at 0) ∙ head-back (lineHead s) (omega arith)) (ap alignIn (part-at 1) ∙ align-back (s .layers .align) a) counts-at section-back path-back
       ∙ rw (from-all 10 (s .second .heads) (r .second .ten))
 
 -- Sound bytes stay.

@@ -34,11 +34,11 @@ abbrev pub headsIn : List ℕ → List ℕ
 headsIn w =
     getD w 1 0 ∷ getD w 2 0 ∷ getD w 3 0 ∷ getD w 4 0 ∷ getD w 5 0 ∷ getD w 6 0 ∷ getD w 7 0 ∷ getD w 8 0 ∷ getD w 9 0 ∷ getD w 10 0 ∷ []
 
-abbrev pub headOf : Supervisor → Head
-headOf s = record { k = s .settings .k; seconds = s .seconds }
+abbrev pub lineHead : Supervisor → Head
+lineHead s = record { k = s .settings .k; seconds = s .seconds }
 
 abbrev pub linePieces : Supervisor → List Piece
-linePieces s = piece 32 (headBytes (headOf s)) ∷ piece 32 (alignBytes (s .layers .align)) ∷ piece 48 (flat (countsOf (s .second))) ∷ []
+linePieces s = piece 32 (headBytes (lineHead s)) ∷ piece 32 (alignBytes (s .layers .align)) ∷ piece 48 (flat (countsOf (s .second))) ∷ []
 
 -- The layers' records. The section has no STAT; the path has no dIAE and no dBIAE.
 

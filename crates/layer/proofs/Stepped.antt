@@ -5,7 +5,7 @@ use mathlib.Core.Bool.{Bool, true, false, _||_, true≢false}
 use lib.Dec.{eqb}
 use Rattle.filter.specs.declared.Filter.{Filter}
 use Rattle.layer.specs.declared.Layer.{Layer}
-use Rattle.layer.specs.Layer.{withTrace, withBdi, gatheredAt, equalOf, closedOf, byteOf, traceOf}
+use Rattle.layer.specs.Layer.{withTrace, withBdi, gatheredAt, equalOf, closedCycle, byteOf, traceOf}
 use Rattle.layer.specs.Steps.{parts}
 
 or-right : (x y : Bool) → (x || y) ≡ false → y ≡ false
@@ -15,7 +15,7 @@ or-right false y h = h
 by-cases : (l : Layer) (forget inmulti t e q : Bool) (number tti : ℕ) (held : Filter) → (eqb (number % 64) 0 || l .gathering) ≡ t
     → eqb (number % 64) 63 ≡ e → eqb (equalOf (gatheredAt l (number % 64) tti)) 3 ≡ q
     → parts l forget inmulti number tti held ≡ withBdi (traceOf l forget inmulti number tti) held
-unfolding traceOf byteOf closedOf equalOf
+unfolding traceOf byteOf closedCycle equalOf
 by-cases l true inmulti t e q number tti held x y z = refl
 by-cases l false false t e q number tti held x y z = refl
 by-cases l false true false e q number tti held x y z =

@@ -14,8 +14,8 @@ use Rattle.filter.specs.Filter.{upOf}
 use Rattle.names.proofs.Same.{same-in, same-trace}
 use Rattle.layer.specs.declared.Layer.{Layer}
 use Rattle.names.specs.Names.{sameTrace, comparedOf}
-use Rattle.layer.specs.Layer.{withTrace, equalOf, closedOf, gatheredAt, byteOf, traceOf, timOf, freshLayer}
-use Rattle.layer.specs.Traced.{Turn, has, down, cycle, bytes, alike, third, Found, trace, acceptedBy, turnsSince, traceAfter, foundIn, Grows, Steady, timBy, TraceIs, TimIs}
+use Rattle.layer.specs.Layer.{withTrace, equalOf, closedCycle, gatheredAt, byteOf, traceOf, timOf, freshLayer}
+use Rattle.layer.specs.Traced.{Turn, has, down, cycle, ttis, alike, third, AcceptedTrace, trace, acceptedBy, turnsSince, traceAfter, traceIn, Grows, Steady, timBy, TraceIs, TimIs}
 
 -- how many alike in a row have ended at the latest frame, and 3 at most
 runs : List Turn → ℕ
@@ -38,17 +38,17 @@ third-runs l = rw (← drop-drop 64 64 l) (by (cycle l) (cycle (drop 64 l)) (cyc
     by true true true false b = refl
 
 -- a cycle has 64 bytes
-bytes-size : (l : List Turn) (n : ℕ) → down l n ≡ true → length (bytes l (suc n)) ≡ suc n
-unfolding down bytes
+bytes-size : (l : List Turn) (n : ℕ) → down l n ≡ true → length (ttis l (suc n)) ≡ suc n
+unfolding down ttis
 bytes-size [] n e = absurd (false≢true e)
 bytes-size (x ∷ l) zero e = refl
 bytes-size (x ∷ l) (suc n) e =
-    let h : length (bytes l (suc n)) ≡ suc n = bytes-size l n (and-right (has x (suc n)) _ e) in
+    let h : length (ttis l (suc n)) ≡ suc n = bytes-size l n (and-right (has x (suc n)) _ e) in
     simp length-append (omega arith)
 
 -- a cycle more: with the gathered bytes its own, and before them what was kept of the cycle 64 frames earlier
-runs-more : (s : Layer) (l : List Turn) → cycle l ≡ true → s .gathered ≡ bytes l 64 → s .equal ≡ runs (drop 64 l)
-    → (cycle (drop 64 l) ≡ true → s .previous ≡ bytes (drop 64 l) 64) → equalOf s ≡ runs l
+runs-more : (s : Layer) (l : List Turn) → cycle l ≡ true → s .gathered ≡ ttis l 64 → s .equal ≡ runs (drop 64 l)
+    → (cycle (drop 64 l) ≡ true → s .previous ≡ ttis (drop 64 l) 64) → equalOf s ≡ runs l
 unfolding runs equalOf upOf
 runs-more s l c g e p = by (cycle (drop 64 l)) refl
   where
@@ -65,7 +65,7 @@ runs-more s l c g e p = by (cycle (drop 64 l)) refl
     by : (t : Bool) → cycle (drop 64 l) ≡ t → equalOf s ≡ runs l
     by true h =
         let m : List Turn = drop 64 l in
-        rw (g, p h, same-trace (bytes l 64) (bytes m 64) (bytes-size l 63 c) (bytes-size m 63 h), e, c, h)
+        rw (g, p h, same-trace (ttis l 64) (ttis m 64) (bytes-size l 63 c) (bytes-size m 63 h), e, c, h)
         (by-one (alike l) (cycle (drop 64 m) && alike m) (cycle (drop 64 (drop 64 m)) && alike (drop 64 m)))
     by false h = rw (e, c, h) (by-none (sameTrace (s .gathered) (s .previous)))
 
@@ -103,9 +103,9 @@ has-of x n i e = rw (i, eq-eqb (x .number % 64) n e)
 -- what the definitions keep where the latest n frames are the front of a cycle: their bytes, and what ended before them
 record Got (n : ℕ) (l : List Turn) (s : Layer) : Type 0 where
   size : length (s .gathered) ≡ 64
-  front : take n (s .gathered) ≡ bytes l n
+  front : take n (s .gathered) ≡ ttis l n
   equal : s .equal ≡ runs (drop n l)
-  previous : cycle (drop n l) ≡ true → s .previous ≡ bytes (drop n l) 64
+  previous : cycle (drop n l) ≡ true → s .previous ≡ ttis (drop n l) 64
 
 -- outside a cycle: OOM, or no number 0 since, or one ended here
 record Still (l : List Turn) (s : Layer) : Type 0 where
@@ -122,12 +122,12 @@ record Amid (l : List Turn) (s : Layer) : Type 0 where
   got : Got (suc n) l s
 
 record Kept (l : List Turn) (s : Layer) : Type 0 where
-  found : foundIn s ≡ acceptedBy l
+  found : traceIn s ≡ acceptedBy l
   place : Still l s ⊎ Amid l s
 
 -- a byte more
 got-more : (n : ℕ) (l : List Turn) (s : Layer) (x : Turn) → n < 64 → Got n l s → Got (suc n) (x ∷ l) (gatheredAt s n (x .tti))
-unfolding bytes
+unfolding ttis
 got-more n l s x h k =
     let w : n < length (s .gathered) = omega (arith, k .size) in
     record {
@@ -143,32 +143,32 @@ unfolding acceptedBy
 no-end x l e = rw e
 
 -- where one ends
-closed-found : (t : Layer) (l : List Turn) → t .gathered ≡ bytes l 64 → equalOf t ≡ runs l → foundIn (closedOf t) ≡ cond (third l) (trace (bytes l 64)) (foundIn t)
-unfolding closedOf
+closed-found : (t : Layer) (l : List Turn) → t .gathered ≡ ttis l 64 → equalOf t ≡ runs l → traceIn (closedCycle t) ≡ cond (third l) (trace (ttis l 64)) (traceIn t)
+unfolding closedCycle
 closed-found t l g e = rw (e, third-runs l) (by (third l))
   where
-    by : (b : Bool) → foundIn (cond b (withTrace t (t .gathered) (t .gathered) (t .gathered) true false (runs l)) (withTrace t (t .accepted) (t .gathered) (t .gathered) (t .known) false (runs l)))
-        ≡ cond b (trace (bytes l 64)) (foundIn t)
+    by : (b : Bool) → traceIn (cond b (withTrace t (t .gathered) (t .gathered) (t .gathered) true false (runs l)) (withTrace t (t .accepted) (t .gathered) (t .gathered) (t .known) false (runs l)))
+        ≡ cond b (trace (ttis l 64)) (traceIn t)
     by true = ap trace g
     by false = refl
 
-closed-got : (t : Layer) (l : List Turn) → length (t .gathered) ≡ 64 → t .gathered ≡ bytes l 64 → equalOf t ≡ runs l → Got 0 l (closedOf t)
-unfolding closedOf bytes
+closed-got : (t : Layer) (l : List Turn) → length (t .gathered) ≡ 64 → t .gathered ≡ ttis l 64 → equalOf t ≡ runs l → Got 0 l (closedCycle t)
+unfolding closedCycle ttis
 closed-got t l z g e =
     by-cond (Got 0 l) (eqb (equalOf t) 3) (λ _. record { size = z; front = refl; equal = e; previous = λ _. g })
     (λ _. record { size = z; front = refl; equal = e; previous = λ _. g })
 
-closed-gathering : (t : Layer) → closedOf t .gathering ≡ false
-unfolding closedOf
+closed-gathering : (t : Layer) → closedCycle t .gathering ≡ false
+unfolding closedCycle
 closed-gathering t = by-cond (λ (z : Layer). z .gathering ≡ false) (eqb (equalOf t) 3) (λ _. refl) (λ _. refl)
 
-closed-kept : (t : Layer) (x : Turn) (l : List Turn) → cycle (x ∷ l) ≡ true → foundIn t ≡ acceptedBy l → Got 64 (x ∷ l) t → Kept (x ∷ l) (closedOf t)
+closed-kept : (t : Layer) (x : Turn) (l : List Turn) → cycle (x ∷ l) ≡ true → traceIn t ≡ acceptedBy l → Got 64 (x ∷ l) t → Kept (x ∷ l) (closedCycle t)
 unfolding acceptedBy
 closed-kept t x l c f k =
-    let g : t .gathered ≡ bytes (x ∷ l) 64 = sym (take-all 64 (t .gathered) (omega (arith, k .size))) ∙ k .front in
+    let g : t .gathered ≡ ttis (x ∷ l) 64 = sym (take-all 64 (t .gathered) (omega (arith, k .size))) ∙ k .front in
     let e : equalOf t ≡ runs (x ∷ l) = runs-more t (x ∷ l) c g (k .equal) (k .previous) in
     record {
-      found = closed-found t (x ∷ l) g e ∙ ap (cond (third (x ∷ l)) (trace (bytes (x ∷ l) 64))) f;
+      found = closed-found t (x ∷ l) g e ∙ ap (cond (third (x ∷ l)) (trace (ttis (x ∷ l) 64))) f;
       place = inl (record {
         gathering = closed-gathering t;
         outside = λ n h. down-one (x ∷ l) 63 n (λ q. omega arith) c;
@@ -181,7 +181,7 @@ byte-on : (s : Layer) (p tti : ℕ) → (eqb p 0 || s .gathering) ≡ true → e
 unfolding byteOf
 byte-on s p tti h e = rw (h, e)
 
-byte-end : (s : Layer) (p tti : ℕ) → (eqb p 0 || s .gathering) ≡ true → eqb p 63 ≡ true → byteOf s p tti ≡ closedOf (gatheredAt s p tti)
+byte-end : (s : Layer) (p tti : ℕ) → (eqb p 0 || s .gathering) ≡ true → eqb p 63 ≡ true → byteOf s p tti ≡ closedCycle (gatheredAt s p tti)
 unfolding byteOf
 byte-end s p tti h e = rw (h, e)
 
@@ -190,7 +190,7 @@ unfolding byteOf
 byte-off s p tti h = rw h
 
 -- byte n of a cycle, after those before it
-byte-kept : (s : Layer) (x : Turn) (l : List Turn) (n : ℕ) → n < 64 → (eqb n 0 || s .gathering) ≡ true → down (x ∷ l) n ≡ true → foundIn s ≡ acceptedBy l
+byte-kept : (s : Layer) (x : Turn) (l : List Turn) (n : ℕ) → n < 64 → (eqb n 0 || s .gathering) ≡ true → down (x ∷ l) n ≡ true → traceIn s ≡ acceptedBy l
     → Got n l s → Kept (x ∷ l) (byteOf s n (x .tti))
 byte-kept s x l n h g d f k = by (eqb n 63) refl
   where
@@ -209,9 +209,9 @@ byte-kept s x l n h g d f k = by (eqb n 63) refl
         })
 
 -- a frame in IM, from outside a cycle
-from-still : (s : Layer) (x : Turn) (l : List Turn) (p : ℕ) → x .number % 64 ≡ p → x .inmulti ≡ true → Grows x l → foundIn s ≡ acceptedBy l → Still l s
+from-still : (s : Layer) (x : Turn) (l : List Turn) (p : ℕ) → x .number % 64 ≡ p → x .inmulti ≡ true → Grows x l → traceIn s ≡ acceptedBy l → Still l s
     → Kept (x ∷ l) (byteOf s p (x .tti))
-unfolding down runs bytes
+unfolding down runs ttis
 from-still s x l p w i g f k = by (eqb p 0) refl
   where
     no-cycle : (p ≡ 0 → ⊥) → (t : Bool) → cycle l ≡ t → t ≡ false
@@ -247,7 +247,7 @@ from-still s x l p w i g f k = by (eqb p 0) refl
         })
 
 -- and from within one
-from-amid : (s : Layer) (x : Turn) (l : List Turn) (p : ℕ) → x .number % 64 ≡ p → x .inmulti ≡ true → Grows x l → foundIn s ≡ acceptedBy l → Amid l s
+from-amid : (s : Layer) (x : Turn) (l : List Turn) (p : ℕ) → x .number % 64 ≡ p → x .inmulti ≡ true → Grows x l → traceIn s ≡ acceptedBy l → Amid l s
     → Kept (x ∷ l) (byteOf s p (x .tti))
 unfolding down
 from-amid s x l p w i g f k =
@@ -262,8 +262,8 @@ from-amid s x l p w i g f k =
 
 -- a frame in OOM
 out-kept : (t : Layer) (x : Turn) (l : List Turn) → x .inmulti ≡ false → t .gathering ≡ false → t .equal ≡ 0 → length (t .gathered) ≡ 64
-    → foundIn t ≡ acceptedBy l → Kept (x ∷ l) t
-unfolding down runs bytes
+    → traceIn t ≡ acceptedBy l → Kept (x ∷ l) t
+unfolding down runs ttis
 out-kept t x l o g e z f =
     record {
       found = f ∙ sym (no-end x l (none-down 63));
@@ -283,7 +283,7 @@ out-kept t x l o g e z f =
 
 -- a frame that forgets
 none-kept : (s : Layer) → s .gathering ≡ false → s .equal ≡ 0 → s .known ≡ false → length (s .gathered) ≡ 64 → Kept [] s
-unfolding down runs bytes acceptedBy
+unfolding down runs ttis acceptedBy
 none-kept s g e k z =
     record {
       found = rw k;
@@ -334,19 +334,19 @@ unfolding acceptedBy
 found-size [] t e = let z : _≡_ {A = ℕ} 0 1 = cc in absurd (omega arith)
 found-size (x ∷ l) t e = by (third (x ∷ l)) refl e (found-size l t)
   where
-    by : (b : Bool) → third (x ∷ l) ≡ b → cond b (trace (bytes (x ∷ l) 64)) (acceptedBy l) ≡ trace t → (acceptedBy l ≡ trace t → length t ≡ 64) → length t ≡ 64
+    by : (b : Bool) → third (x ∷ l) ≡ b → cond b (trace (ttis (x ∷ l) 64)) (acceptedBy l) ≡ trace t → (acceptedBy l ≡ trace t → length t ≡ 64) → length t ≡ 64
     by true h e f =
         let c : cycle (x ∷ l) ≡ true = and-left (cycle (x ∷ l)) _ h in
-        let q : bytes (x ∷ l) 64 ≡ t = cc in
+        let q : ttis (x ∷ l) 64 ≡ t = cc in
         ap length (sym q) ∙ bytes-size (x ∷ l) 63 c
     by false h e f = f e
 
 -- the defect, by what is found
-tim-found : (s : Layer) (mode : ℕ) (names : List ℕ) → (s .known ≡ true → length (s .accepted) ≡ 64) → length names ≡ 32 → timOf s mode names ≡ timBy (foundIn s) mode names
+tim-found : (s : Layer) (mode : ℕ) (names : List ℕ) → (s .known ≡ true → length (s .accepted) ≡ 64) → length names ≡ 32 → timOf s mode names ≡ timBy (traceIn s) mode names
 unfolding timOf timBy comparedOf
 tim-found s mode names z h = by (s .known) refl
   where
-    by : (b : Bool) → s .known ≡ b → timOf s mode names ≡ timBy (foundIn s) mode names
+    by : (b : Bool) → s .known ≡ b → timOf s mode names ≡ timBy (traceIn s) mode names
     by true k =
         let a : length (s .accepted) ≡ 64 = z k in
         rw (k, same-in 16 0 (s .accepted) names (omega arith) (omega arith), same-in 16 16 (s .accepted) names (omega arith) (omega arith))
@@ -354,6 +354,6 @@ tim-found s mode names z h = by (s .known) refl
 
 pub tim-is : (l : List Turn) (mode : ℕ) (names : List ℕ) → TimIs l mode names
 tim-is l mode names h n =
-    let f : foundIn (traceAfter l) ≡ acceptedBy (turnsSince l) = trace-is l h in
+    let f : traceIn (traceAfter l) ≡ acceptedBy (turnsSince l) = trace-is l h in
     let z : traceAfter l .known ≡ true → length (traceAfter l .accepted) ≡ 64 = λ k. found-size (turnsSince l) (traceAfter l .accepted) (sym f ∙ rw k) in
-    tim-found (traceAfter l) mode names z n ∙ ap (λ (r : Found). timBy r mode names) f
+    tim-found (traceAfter l) mode names z n ∙ ap (λ (r : AcceptedTrace). timBy r mode names) f

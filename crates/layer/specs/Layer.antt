@@ -9,7 +9,8 @@ use Rattle.filter.specs.Filter.{upOf, quiet, filterOf}
 use Rattle.layer.specs.declared.Layer.{Layer}
 use Rattle.names.specs.Names.{sameTrace, comparedOf}
 
--- the layer with another trace
+-- the layer with another trace: the accepted, the gathered and the previous cycle; whether a trace is accepted, whether a cycle is being
+-- gathered, and the equal cycles in a row
 abbrev pub withTrace : Layer → List ℕ → List ℕ → List ℕ → Bool → Bool → ℕ → Layer
 withTrace l accepted gathered previous known gathering equal =
     record { accepted = accepted; gathered = gathered; previous = previous; known = known; gathering = gathering; equal = equal; bdi = l .bdi; deg = l .deg }
@@ -28,12 +29,16 @@ withDeg l deg =
 unfoldable pub equalOf : Layer → ℕ
 equalOf l = cond (sameTrace (l .gathered) (l .previous)) (upOf (l .equal) 3) 1
 
+-- the gathered cycle at its end: accepted, or only kept to be compared with the next
+abbrev pub acceptedCycle : Layer → Layer
+acceptedCycle l = withTrace l (l .gathered) (l .gathered) (l .gathered) true false (equalOf l)
+
+abbrev pub endedCycle : Layer → Layer
+endedCycle l = withTrace l (l .accepted) (l .gathered) (l .gathered) (l .known) false (equalOf l)
+
 -- "Three equal cycles in a row are accepted at the last frame of the third." (6.2.2.1, 8.6)
-unfoldable pub closedOf : Layer → Layer
-closedOf l =
-    cond (eqb (equalOf l) 3)
-    (withTrace l (l .gathered) (l .gathered) (l .gathered) true false (equalOf l))
-    (withTrace l (l .accepted) (l .gathered) (l .gathered) (l .known) false (equalOf l))
+unfoldable pub closedCycle : Layer → Layer
+closedCycle l = cond (eqb (equalOf l) 3) (acceptedCycle l) (endedCycle l)
 
 -- the layer with byte `at` of the cycle gathered
 abbrev pub gatheredAt : Layer → ℕ → ℕ → Layer
@@ -43,18 +48,20 @@ gatheredAt l place tti = withTrace l (l .accepted) (set (l .gathered) place tti)
 unfoldable pub byteOf : Layer → ℕ → ℕ → Layer
 byteOf l place tti =
     cond (eqb place 0 || l .gathering)
-    (cond (eqb place 63) (closedOf (gatheredAt l place tti)) (gatheredAt l place tti))
+    (cond (eqb place 63) (closedCycle (gatheredAt l place tti)) (gatheredAt l place tti))
     l
 
 -- "Where a defect is 'false during' X, its run and accepted value are forgotten too in each such frame (house). A trace's run
--- includes a cycle half gathered". "OOM drops the cycle and the run, not the accepted trace."
+-- includes a cycle half gathered"
+abbrev pub forgotten : Layer → Layer
+forgotten l = withTrace l (l .accepted) (l .gathered) (l .previous) false false 0
+
+-- "OOM drops the cycle and the run, not the accepted trace."
+abbrev pub dropped : Layer → Layer
+dropped l = withTrace l (l .accepted) (l .gathered) (l .previous) (l .known) false 0
+
 unfoldable pub traceOf : Layer → Bool → Bool → ℕ → ℕ → Layer
-traceOf l forget inmulti number tti =
-    cond forget
-    (withTrace l (l .accepted) (l .gathered) (l .previous) false false 0)
-    (cond inmulti
-    (byteOf l (number % 64) tti)
-    (withTrace l (l .accepted) (l .gathered) (l .previous) (l .known) false 0))
+traceOf l forget inmulti number tti = cond forget (forgotten l) (cond inmulti (byteOf l (number % 64) tti) (dropped l))
 
 -- the trace, and "dBDI: BDI 1 in five frames in a row; cleared by five 0" (6.2.6.6.1): both are forgotten in the same frames
 unfoldable pub layerOf : Layer → Bool → Bool → ℕ → ℕ → Bool → Layer

@@ -32,27 +32,27 @@ abbrev pub cycle : List Turn → Bool
 cycle l = down l 63
 
 -- the TTI bytes of the latest n frames, in the order in which they came
-unfoldable pub bytes : List Turn → ℕ → List ℕ
-bytes l zero = []
-bytes [] (suc n) = []
-bytes (x ∷ l) (suc n) = bytes l n ++ (x .tti ∷ [])
+unfoldable pub ttis : List Turn → ℕ → List ℕ
+ttis l zero = []
+ttis [] (suc n) = []
+ttis (x ∷ l) (suc n) = ttis l n ++ (x .tti ∷ [])
 
 -- the cycles that end here and 64 frames earlier are alike
 abbrev pub alike : List Turn → Bool
-alike l = same (bytes l 64) (bytes (drop 64 l) 64)
+alike l = same (ttis l 64) (ttis (drop 64 l) 64)
 
 -- "Three equal cycles in a row": one ends here, one 64 frames earlier and one 128 frames earlier, and all are alike
 abbrev pub third : List Turn → Bool
 third l = cycle l && (cycle (drop 64 l) && (cycle (drop 128 l) && (alike l && alike (drop 64 l))))
 
-pub data Found : Type 0 where
-  none : Found
-  trace : List ℕ → Found
+pub data AcceptedTrace : Type 0 where
+  none : AcceptedTrace
+  trace : List ℕ → AcceptedTrace
 
 -- "Three equal cycles in a row are accepted at the last frame of the third": its bytes, or otherwise what stood a frame earlier
-unfoldable pub acceptedBy : List Turn → Found
+unfoldable pub acceptedBy : List Turn → AcceptedTrace
 acceptedBy [] = none
-acceptedBy (x ∷ l) = cond (third (x ∷ l)) (trace (bytes (x ∷ l) 64)) (acceptedBy l)
+acceptedBy (x ∷ l) = cond (third (x ∷ l)) (trace (ttis (x ∷ l) 64)) (acceptedBy l)
 
 -- the frames since the last one that forgot
 unfoldable pub turnsSince : List Turn → List Turn
@@ -64,8 +64,8 @@ unfoldable pub traceAfter : List Turn → Layer
 traceAfter [] = freshLayer
 traceAfter (x ∷ l) = traceOf (traceAfter l) (x .forget) (x .inmulti) (x .number) (x .tti)
 
-abbrev pub foundIn : Layer → Found
-foundIn s = cond (s .known) (trace (s .accepted)) none
+abbrev pub traceIn : Layer → AcceptedTrace
+traceIn s = cond (s .known) (trace (s .accepted)) none
 
 -- "In IM the local number grows by 1 modulo 256 each frame": of the frame x, after the frames l
 abbrev pub Grows : Turn → List Turn → Type 0
@@ -85,7 +85,7 @@ abbrev pub dapi : List ℕ → List ℕ
 dapi t = take 16 (drop 16 t)
 
 -- "dTIM: a trace is accepted and the compared field differs. Mode 0 off, 1 SAPI, 2 DAPI, 3 both (either differing suffices)."
-unfoldable pub timBy : Found → ℕ → List ℕ → Bool
+unfoldable pub timBy : AcceptedTrace → ℕ → List ℕ → Bool
 timBy none mode names = false
 timBy (trace t) mode names =
     ((eqb mode 1 || eqb mode 3) && not (same (sapi t) (sapi names)))
@@ -93,7 +93,7 @@ timBy (trace t) mode names =
 
 -- the law of the accepted trace
 abbrev pub TraceIs : List Turn → Type 0
-TraceIs l = Steady l → foundIn (traceAfter l) ≡ acceptedBy (turnsSince l)
+TraceIs l = Steady l → traceIn (traceAfter l) ≡ acceptedBy (turnsSince l)
 
 -- the law of dTIM
 abbrev pub TimIs : List Turn → ℕ → List ℕ → Type 0

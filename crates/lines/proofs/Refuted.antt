@@ -12,7 +12,7 @@ use borrow.Fn.Kinds.{Dens, endedOf}
 use denote.Triple.Clauses.{AtExit}
 use Rattle.answer.specs.Over.{over}
 use Rattle.answer.proofs.Cond.{by-cond}
-use Rattle.listing.specs.Text.{fitted, decimalIn, fieldOf, fieldsOf}
+use Rattle.listing.specs.Text.{fitted, decimalIn, spaced, fieldsOf}
 use Rattle.listing.proofs.Overs.{fitted-is}
 use Rattle.names.specs.Names.{sameIn, sameTrace}
 use Rattle.causes.specs.Causes.{ssfOf, timActs, headOf, reportOf, nothingStands}
@@ -44,7 +44,7 @@ abbrev End : Lfts 1 → Type 0
 End κs = AtExit (endedOf 1 told-kinds.ps told-kinds.r) κs
 
 same-state : lineFor (change 1 framed framed) ≡ []
-unfolding lineFor shownOf changeLine frameLine beginningOf allChanges conditionChanges conditions traceChange toldOf readableOf printableOf headChange changesOf changeOf fieldsOf fieldOf decimalIn reportOf headOf timActs ssfOf sameTrace sameIn
+unfolding lineFor shownOf changeLine frameLine beginningOf allChanges conditionChanges conditions traceChange toldOf readableOf printableOf headChange changesOf changeOf fieldsOf spaced decimalIn reportOf headOf timActs ssfOf sameTrace sameIn
 same-state = refl
 
 -- a record with which nothing changed puts no line, and no line end either
@@ -57,7 +57,7 @@ empty-line κs a s p =
     omega (arith, p .0, e)
 
 first-second : (d : List ℕ) → getD (over d 0 (lineFor (change 1 startOf framed))) 2 0 ≡ 49
-unfolding over lineFor shownOf changeLine frameLine beginningOf allChanges conditionChanges conditions traceChange toldOf readableOf printableOf headChange changesOf changeOf fieldsOf fieldOf decimalIn reportOf headOf timActs ssfOf sameTrace sameIn
+unfolding over lineFor shownOf changeLine frameLine beginningOf allChanges conditionChanges conditions traceChange toldOf readableOf printableOf headChange changesOf changeOf fieldsOf spaced decimalIn reportOf headOf timActs ssfOf sameTrace sameIn
 first-second d = refl
 
 -- the open second is counted from 1: a line that begins "F 0" is none

@@ -12,7 +12,7 @@ use Rattle.answer.proofs.Cond.{by-cond}
 use Rattle.io.specs.Digits.{digits, Fewest}
 use Rattle.answer.specs.Over.{over}
 use Rattle.answer.proofs.Overs.{over-nil, over-over}
-use Rattle.listing.specs.Text.{decimalIn, fieldOf, fieldsOf, lineOf, fitted}
+use Rattle.listing.specs.Text.{decimalIn, spaced, fieldsOf, textLine, fitted}
 
 pow-pos-10 : (j : ℕ) → 1 ≤ 10 ^ j
 pow-pos-10 zero = omega (arith, pow-zero 10)
@@ -38,11 +38,11 @@ digits-decimal (suc (suc j)) (suc f) n l h =
     rw (le-ltb n 10 (omega arith), lt-ltb (n % 10) 10 m)
     (ap (λ (d : List ℕ). d ++ ((48 + n % 10) ∷ [])) (digits-decimal (suc j) f (n / 10) (omega arith) (omega arith, omega (arith, h .1), λ _. rw one-less (omega arith))))
 
-pub fields-suc : (ns : List ℕ) (i : ℕ) → i < length ns → fieldsOf (take (suc i) ns) ≡ fieldsOf (take i ns) ++ fieldOf (getD ns i 0)
+pub fields-suc : (ns : List ℕ) (i : ℕ) → i < length ns → fieldsOf (take (suc i) ns) ≡ fieldsOf (take i ns) ++ spaced (getD ns i 0)
 unfolding fieldsOf
 fields-suc [] i h = absurd (omega arith)
 fields-suc (n ∷ ns) zero h = rw append-nil
-fields-suc (n ∷ ns) (suc i) h = ap (λ (l : List ℕ). fieldOf n ++ l) (fields-suc ns i (omega arith)) ∙ sym (append-assoc (fieldOf n) (fieldsOf (take i ns)) (fieldOf (getD ns i 0)))
+fields-suc (n ∷ ns) (suc i) h = ap (λ (l : List ℕ). spaced n ++ l) (fields-suc ns i (omega arith)) ∙ sym (append-assoc (spaced n) (fieldsOf (take i ns)) (spaced (getD ns i 0)))
 
 -- a writing after a writing, with the lists between
 pub then : (d : List ℕ) (at p : ℕ) (v w o₁ o₂ : List ℕ) → at ≤ length d → p ≡ at + length v → o₁ ≡ over d at v → o₂ ≡ over o₁ p w → o₂ ≡ over d at (v ++ w)
@@ -100,10 +100,10 @@ decimal-length (suc f) n =
     by-cond (λ (l : List ℕ). length l ≤ suc f) (ltb n 10) (λ _. omega arith) (λ _. rw length-append (omega (arith, decimal-length f (n / 10))))
 
 pub fields-length : (ns : List ℕ) → length (fieldsOf ns) ≤ 21 * length ns
-unfolding fieldsOf fieldOf
+unfolding fieldsOf spaced
 fields-length [] = omega arith
 fields-length (n ∷ ns) = rw length-append (omega (arith, decimal-length 20 n, fields-length ns))
 
-pub line-length : (letter : ℕ) (ns : List ℕ) → length (lineOf letter ns) ≤ 2 + 21 * length ns
-unfolding lineOf
+pub line-length : (letter : ℕ) (ns : List ℕ) → length (textLine letter ns) ≤ 2 + 21 * length ns
+unfolding textLine
 line-length letter ns = rw length-append (omega (arith, fields-length ns))

@@ -10,7 +10,7 @@ use denote.Ref.{now}
 use denote.Triple.Clauses.{AtExit}
 use Rattle.answer.specs.Over.{over}
 use Rattle.listing.specs.Bytes.{bytes}
-use Rattle.listing.specs.Text.{decimalIn, fieldOf, fieldsOf, lineOf, fitted}
+use Rattle.listing.specs.Text.{decimalIn, spaced, fieldsOf, textLine, fitted}
 use Rattle.listing.proofs.put_text.Kinds as text-kinds
 use Rattle.listing.proofs.put_text.Reads as text-reads
 use Rattle.listing.proofs.put_number.Kinds as number-kinds
@@ -44,7 +44,7 @@ number-as-room κs a s n d at p =
 -- `F 1 3 12` has a blank before each number
 pub start-without-blanks : (κs : Lfts 1) (a : Dens κs start-kinds.ps) (s : AtExit (endedOf 1 start-kinds.ps start-kinds.r) κs)
     → a .0 ≡ 70 → a .1 .0 ≡ 1 ∷ 3 ∷ 12 ∷ [] → now (a .1 .1 .0) ≡ replicate 64 0 → a .1 .1 .1 .0 ≡ 0 → start-reads.Post κs a 5 s → ⊥
-unfolding fitted fieldsOf fieldOf decimalIn
+unfolding fitted fieldsOf spaced decimalIn
 start-without-blanks κs a s letter ns d at p =
     let h : _≡_ {A = ℕ} 5 8 = rw (letter, ns, d, at) at (p .0) in
     omega arith
@@ -52,7 +52,7 @@ start-without-blanks κs a s letter ns d at p =
 -- twenty figures of one digit make 42 bytes: with one figure less they would be 40
 pub second-short : (κs : Lfts 1) (a : Dens κs second-kinds.ps) (s : AtExit (endedOf 1 second-kinds.ps second-kinds.r) κs)
     → a .0 ≡ replicate 20 1 → now (a .1 .0) ≡ replicate 422 0 → a .1 .1 .0 ≡ 0 → second-reads.Post κs a 40 s → ⊥
-unfolding fitted lineOf fieldsOf fieldOf decimalIn
+unfolding fitted textLine fieldsOf spaced decimalIn
 second-short κs a s figures d at p =
     let h : _≡_ {A = ℕ} 40 42 = rw (figures, d, at) at (p .0) in
     omega arith
@@ -61,7 +61,7 @@ second-short κs a s figures d at p =
 pub offset-first : (κs : Lfts 1) (a : Dens κs refusal-kinds.ps) (r : ℕ) (s : AtExit (endedOf 1 refusal-kinds.ps refusal-kinds.r) κs)
     → a .0 ≡ 7 → a .1 .0 ≡ 8 → now (a .1 .1 .0) ≡ replicate 44 0 → a .1 .1 .1 .0 ≡ 0 → now (s .1 .1 .0) ≡ over (replicate 44 0) 0 (bytes "R 8 7\n")
     → refusal-reads.Post κs a r s → ⊥
-unfolding fitted over lineOf fieldsOf fieldOf decimalIn
+unfolding fitted over textLine fieldsOf spaced decimalIn
 offset-first κs a r s number offset d at o p =
     let e : now (s .1 .1 .0) ≡ over (replicate 44 0) 0 (bytes "R 7 8\n") = rw (number, offset, d, at) at (p .1) in
     let h : _≡_ {A = ℕ} 56 55 = ap (λ (l : List ℕ). getD l 2 0) (sym o ∙ e) in
@@ -71,7 +71,7 @@ offset-first κs a r s number offset d at o p =
 pub frames-first : (κs : Lfts 1) (a : Dens κs end-kinds.ps) (r : ℕ) (s : AtExit (endedOf 1 end-kinds.ps end-kinds.r) κs)
     → a .0 ≡ 1 → a .1 .0 ≡ 2 → now (a .1 .1 .0) ≡ replicate 44 0 → a .1 .1 .1 .0 ≡ 0 → now (s .1 .1 .0) ≡ over (replicate 44 0) 0 (bytes "E 2 1\n")
     → end-reads.Post κs a r s → ⊥
-unfolding fitted over lineOf fieldsOf fieldOf decimalIn
+unfolding fitted over textLine fieldsOf spaced decimalIn
 frames-first κs a r s marks frames d at o p =
     let e : now (s .1 .1 .0) ≡ over (replicate 44 0) 0 (bytes "E 1 2\n") = rw (marks, frames, d, at) at (p .1) in
     let h : _≡_ {A = ℕ} 50 49 = ap (λ (l : List ℕ). getD l 2 0) (sym o ∙ e) in

@@ -14,32 +14,32 @@ abbrev pub decimalOf : ℕ → List ℕ
 decimalOf n = decimalIn 20 n
 
 -- a blank and a number
-unfoldable pub fieldOf : ℕ → List ℕ
-fieldOf n = 32 ∷ decimalOf n
+unfoldable pub spaced : ℕ → List ℕ
+spaced n = 32 ∷ decimalOf n
 
 unfoldable pub fieldsOf : List ℕ → List ℕ
 fieldsOf [] = []
-fieldsOf (n ∷ ns) = fieldOf n ++ fieldsOf ns
+fieldsOf (n ∷ ns) = spaced n ++ fieldsOf ns
 
 -- the start of a line: a letter, and numbers each after a blank
 abbrev pub lineStart : ℕ → List ℕ → List ℕ
 lineStart letter ns = letter ∷ fieldsOf ns
 
 -- a line: its start and a line end
-unfoldable pub lineOf : ℕ → List ℕ → List ℕ
-lineOf letter ns = lineStart letter ns ++ (10 ∷ [])
+unfoldable pub textLine : ℕ → List ℕ → List ℕ
+textLine letter ns = lineStart letter ns ++ (10 ∷ [])
 
 -- "S: second from 1, frames, heads 0 to 9, section near blocks, far blocks, near DS, far DS, then the path's four."
 abbrev pub secondLine : List ℕ → List ℕ
-secondLine figures = lineOf 83 figures
+secondLine figures = textLine 83 figures
 
 -- "A refusal prints `R`, its number and the record's byte offset"
 abbrev pub refusalLine : ℕ → ℕ → List ℕ
-refusalLine number offset = lineOf 82 (number ∷ offset ∷ [])
+refusalLine number offset = textLine 82 (number ∷ offset ∷ [])
 
 -- "E: marks and frames accepted."
 abbrev pub endLine : ℕ → ℕ → List ℕ
-endLine marks frames = lineOf 69 (marks ∷ frames ∷ [])
+endLine marks frames = textLine 69 (marks ∷ frames ∷ [])
 
 -- what is written at a place of a buffer of a length: a line where the buffer has its room there, otherwise nothing
 unfoldable pub fitted : ℕ → ℕ → ℕ → List ℕ → List ℕ

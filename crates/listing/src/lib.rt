@@ -4,7 +4,7 @@ ghost use mathlib.Core.List.{[], _∷_};
 ghost use Prim.Native.Nat.{_+_, _-_, _*_, _≤_, _<_};
 ghost use lib.ListN.{length};
 ghost use Rattle.answer.specs.Over.{over};
-ghost use Rattle.listing.specs.Text.{decimalOf, fieldOf, fieldsOf, lineStart, lineOf, fitted, secondLine, refusalLine, endLine, numberRoom, startRoom, secondRoom, pairRoom};
+ghost use Rattle.listing.specs.Text.{decimalOf, spaced, fieldsOf, lineStart, textLine, fitted, secondLine, refusalLine, endLine, numberRoom, startRoom, secondRoom, pairRoom};
 ghost use Rattle.listing.specs.Wrote.{Wrote};
 
 fn wide(x: u32) -> u64
@@ -66,7 +66,7 @@ fn put_byte(b: u8, out: &mut [u8], at: usize) -> usize
 // A blank and a number.
 fn put_field(n: u64, out: &mut [u8], at: usize) -> usize
     requires { ⌜ at + 21 ≤ length (now out) ⌝ }
-    ensures { λ r. ⌜ Wrote 21 (now (out .entry)) at r (now (out .exit)) (fieldOf n) ⌝ }
+    ensures { λ r. ⌜ Wrote 21 (now (out .entry)) at r (now (out .exit)) (spaced n) ⌝ }
 {
     let p = put_byte(b' ', out, at);
     put_number(n, out, p)
@@ -101,7 +101,7 @@ pub fn put_start(letter: u8, ns: [u64; 3], out: &mut [u8], at: usize) -> usize
 // A line: a letter, the numbers and a line end.
 fn put_line(letter: u8, ns: &[u64], out: &mut [u8], at: usize) -> usize
     requires { ⌜ at + (2 + 21 * length (now ns)) ≤ length (now out) ⌝ }
-    ensures { λ r. ⌜ Wrote (2 + 21 * length (now (ns .entry))) (now (out .entry)) at r (now (out .exit)) (lineOf letter (now (ns .entry))) ⌝ }
+    ensures { λ r. ⌜ Wrote (2 + 21 * length (now (ns .entry))) (now (out .entry)) at r (now (out .exit)) (textLine letter (now (ns .entry))) ⌝ }
 {
     let p = put_byte(letter, out, at);
     let q = put_fields(ns, out, p);
@@ -134,7 +134,7 @@ pub fn second_line(figures: [u32; 20], out: &mut [u8], at: usize) -> usize
 
 // A letter and two numbers.
 fn pair_line(letter: u8, a: u64, b: u64, out: &mut [u8], at: usize) -> usize
-    ensures { λ r. ⌜ (r ≡ at + length (fitted (length (now (out .entry))) at pairRoom (lineOf letter (a ∷ b ∷ [])))) × (now (out .exit) ≡ over (now (out .entry)) at (fitted (length (now (out .entry))) at pairRoom (lineOf letter (a ∷ b ∷ [])))) ⌝ }
+    ensures { λ r. ⌜ (r ≡ at + length (fitted (length (now (out .entry))) at pairRoom (textLine letter (a ∷ b ∷ [])))) × (now (out .exit) ≡ over (now (out .entry)) at (fitted (length (now (out .entry))) at pairRoom (textLine letter (a ∷ b ∷ [])))) ⌝ }
 {
     let free = room(out.len(), at);
     if 44 <= free {

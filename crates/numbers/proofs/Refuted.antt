@@ -12,20 +12,20 @@ use Rattle.numbers.specs.declared.Front.{Front}
 use Rattle.numbers.specs.declared.State.{State}
 use Rattle.numbers.proofs.head_bytes.Kinds as head-bytes-kinds
 use Rattle.numbers.proofs.head_bytes.Reads as head-bytes-reads
-use Rattle.numbers.proofs.head_of.Kinds as head-of-kinds
-use Rattle.numbers.proofs.head_of.Reads as head-of-reads
+use Rattle.numbers.proofs.head_in.Kinds as head-in-kinds
+use Rattle.numbers.proofs.head_in.Reads as head-in-reads
 use Rattle.numbers.proofs.align_bytes.Kinds as align-bytes-kinds
 use Rattle.numbers.proofs.align_bytes.Reads as align-bytes-reads
-use Rattle.numbers.proofs.align_of.Kinds as align-of-kinds
-use Rattle.numbers.proofs.align_of.Reads as align-of-reads
+use Rattle.numbers.proofs.align_in.Kinds as align-in-kinds
+use Rattle.numbers.proofs.align_in.Reads as align-in-reads
 use Rattle.numbers.proofs.front_bytes.Kinds as front-bytes-kinds
 use Rattle.numbers.proofs.front_bytes.Reads as front-bytes-reads
-use Rattle.numbers.proofs.front_of.Kinds as front-of-kinds
-use Rattle.numbers.proofs.front_of.Reads as front-of-reads
+use Rattle.numbers.proofs.front_in.Kinds as front-in-kinds
+use Rattle.numbers.proofs.front_in.Reads as front-in-reads
 use Rattle.numbers.proofs.state_bytes.Kinds as state-bytes-kinds
 use Rattle.numbers.proofs.state_bytes.Reads as state-bytes-reads
-use Rattle.numbers.proofs.state_of.Kinds as state-of-kinds
-use Rattle.numbers.proofs.state_of.Reads as state-of-reads
+use Rattle.numbers.proofs.state_in.Kinds as state-in-kinds
+use Rattle.numbers.proofs.state_in.Reads as state-in-reads
 
 -- head_bytes: of the seconds the lowest byte comes first
 pub seconds-high-first : (h : Head) (x : List ℕ) → h .seconds ≡ 1 → getD x 28 0 ≡ 0
@@ -34,8 +34,8 @@ seconds-high-first h x n w s e =
     let z : _≡_ {A = ℕ} 0 1 = sym w ∙ ap (λ (l : List ℕ). getD l 28 0) e ∙ ap (λ (m : ℕ). m % 256) n in
     omega arith
 
--- head_of: the seconds end the strip, and do not follow k
-pub seconds-after-k : (x : Head) → x .seconds ≡ 1 → NoAnswer head-of-kinds.ps head-of-kinds.r head-of-reads.Post (3 ∷ 1 ∷ replicate 30 0, tt) x
+-- head_in: the seconds end the strip, and do not follow k
+pub seconds-after-k : (x : Head) → x .seconds ≡ 1 → NoAnswer head-in-kinds.ps head-in-kinds.r head-in-reads.Post (3 ∷ 1 ∷ replicate 30 0, tt) x
 seconds-after-k x w s e =
     let z : _≡_ {A = ℕ} 1 0 = sym w ∙ ap (λ (h : Head). h .seconds) e in
     omega arith
@@ -47,9 +47,9 @@ previous-first a x n w s e =
     let z : _≡_ {A = ℕ} 7 5 = sym w ∙ ap (λ (l : List ℕ). getD l 4 0) e ∙ n in
     omega arith
 
--- align_of: 1 is true, and 2 is not
+-- align_in: 1 is true, and 2 is not
 pub two-in-frame : (x : Alignment) → x .framing .inframe ≡ true
-    → NoAnswer align-of-kinds.ps align-of-kinds.r align-of-reads.Post (2 ∷ replicate 31 0, tt) x
+    → NoAnswer align-in-kinds.ps align-in-kinds.r align-in-reads.Post (2 ∷ replicate 31 0, tt) x
 two-in-frame x w s e = true≢false (sym w ∙ ap (λ (a : Alignment). a .framing .inframe) e)
 
 -- front_bytes: a spare byte is 0
@@ -58,8 +58,8 @@ spare-one f x w s e =
     let z : _≡_ {A = ℕ} 1 0 = sym w ∙ ap (λ (l : List ℕ). getD l 31 0) e in
     omega arith
 
--- front_of: DEGThr has four bytes, and not one
-pub thr-of-one-byte : (x : Front) → x .thr ≡ 0 → NoAnswer front-of-kinds.ps front-of-kinds.r front-of-reads.Post (0 ∷ 1 ∷ replicate 30 0, tt) x
+-- front_in: DEGThr has four bytes, and not one
+pub thr-of-one-byte : (x : Front) → x .thr ≡ 0 → NoAnswer front-in-kinds.ps front-in-kinds.r front-in-reads.Post (0 ∷ 1 ∷ replicate 30 0, tt) x
 thr-of-one-byte x w s e =
     let z : _≡_ {A = ℕ} 0 256 = sym w ∙ ap (λ (f : Front). f .thr) e in
     omega arith
@@ -71,9 +71,9 @@ far-first t x n w s e =
     let z : _≡_ {A = ℕ} 0 1 = sym w ∙ ap (λ (l : List ℕ). getD l 24 0) e ∙ ap (λ (m : ℕ). m % 256) n in
     omega arith
 
--- state_of: the near-end blocks are not the far-end blocks
+-- state_in: the near-end blocks are not the far-end blocks
 pub far-for-near : (x : State) → x .blocks .near .0 ≡ 1
-    → NoAnswer state-of-kinds.ps state-of-kinds.r state-of-reads.Post (replicate 28 0 ++ (1 ∷ replicate 3 0), tt) x
+    → NoAnswer state-in-kinds.ps state-in-kinds.r state-in-reads.Post (replicate 28 0 ++ (1 ∷ replicate 3 0), tt) x
 far-for-near x w s e =
     let z : _≡_ {A = ℕ} 1 0 = sym w ∙ ap (λ (t : State). t .blocks .near .0) e in
     omega arith

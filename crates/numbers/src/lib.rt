@@ -82,7 +82,7 @@ pub fn head_bytes(h: Head) -> [u8; 32]
     ]
 }
 
-pub fn head_of(w: [u8; 32]) -> Head
+pub fn head_in(w: [u8; 32]) -> Head
     ensures { λ r. ⌜ r ≡ headIn w ⌝ }
 {
     let seconds = word_of(w[28], w[29], w[30], w[31]);
@@ -131,7 +131,7 @@ pub fn align_bytes(a: Alignment) -> [u8; 32]
     ]
 }
 
-pub fn align_of(w: [u8; 32]) -> Alignment
+pub fn align_in(w: [u8; 32]) -> Alignment
     ensures { λ r. ⌜ r ≡ alignIn w ⌝ }
 {
     let misses = w[2] as u32;
@@ -199,7 +199,7 @@ pub fn front_bytes(f: Front) -> [u8; 32]
     ]
 }
 
-pub fn front_of(w: [u8; 32]) -> Front
+pub fn front_in(w: [u8; 32]) -> Front
     ensures { λ r. ⌜ r ≡ frontIn w ⌝ }
 {
     let thr = word_of(w[0], w[1], w[2], w[3]);
@@ -271,7 +271,7 @@ fn blocks_of(w: [u8; 32]) -> Blocks
     }
 }
 
-pub fn state_of(w: [u8; 32]) -> State
+pub fn state_in(w: [u8; 32]) -> State
     ensures { λ r. ⌜ r ≡ stateIn w ⌝ }
 {
     let equal = w[2] as u32;

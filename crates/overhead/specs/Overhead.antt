@@ -12,8 +12,8 @@ abbrev pub byteAt : List ℕ → ℕ → ℕ → ℕ
 byteAt o row column = getD o ((row - 1) * 16 + (column - 1)) 0
 
 -- "bits count from 1; bit 1 is the highest": bit i of a byte
-abbrev pub bit : ℕ → ℕ → Bool
-bit i b = eqb (b / 2 ^ (8 - i) % 2) 1
+abbrev pub bitOf : ℕ → ℕ → Bool
+bitOf i b = eqb (b / 2 ^ (8 - i) % 2) 1
 
 -- columns 3 to 5 = F6 28 28 (8.2.1)
 unfoldable pub threeOf : List ℕ → Bool
@@ -26,7 +26,7 @@ fourOf o = eqb (byteAt o 1 2) 0xF6 && threeOf o
 -- "SM and PM: TTI byte, BIP-8 byte, status byte. Status bits 1 to 4 are BEI, bit 5 BDI. In SM bit 6 is IAE and bits 7 and 8 are
 -- ignored. In PM bits 6 to 8 are STAT."
 unfoldable pub fieldOf : ℕ → ℕ → Field
-fieldOf tti status = record { tti = tti; bei = status / 16; bdi = bit 5 status; iae = bit 6 status; stat = status % 8 }
+fieldOf tti status = record { tti = tti; bei = status / 16; bdi = bitOf 5 status; iae = bitOf 6 status; stat = status % 8 }
 
 -- row 1: columns 1 to 6 FAS, column 7 MFAS, columns 8 to 10 section (SM); row 3: columns 10 to 12 path (PM)
 unfoldable pub overheadOf : List ℕ → Overhead

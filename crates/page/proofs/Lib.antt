@@ -1,1 +1,10 @@
+pub mod Back
+pub mod Lines
+pub mod Mechanisms
+pub mod Sections
+pub mod Paths
+pub mod Standings
+pub mod Seconds
+pub mod Degraded
+pub mod Refusals
 pub mod Page

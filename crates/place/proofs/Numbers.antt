@@ -15,7 +15,7 @@ use Rattle.filter.specs.declared.Filter.{Filter}
 use Rattle.filter.specs.declared.Stat.{Stat}
 use Rattle.filter.specs.Filter.{filterOf}
 use Rattle.place.specs.declared.Filtered.{Filtered}
-use Rattle.place.specs.Place.{filterAt, filterBytes, statBytes, flagsIn, countsIn, sectionFilters, filteredBytes, sectionNumbers, pathBdi, pathNumbers}
+use Rattle.place.specs.Place.{filterAt, filterBytes, statBytes, flagsIn, countsIn, sectionFilters, filteredBytes, sectionNumbers, pathBdiAt, pathNumbers}
 use Rattle.cycle.proofs.Parts.{parted, parted-sized, parted-joined, lent, back, sized-back}
 
 filter-in : (w : List ℕ) (at : ℕ) → at + 2 ≤ length w → filterAt (bytesIn 2 at w) 0 ≡ filterAt w at
@@ -115,10 +115,10 @@ module _ (w0 x1 x2 x3 x4 : List ℕ) (bdi : Filter) (t : Stat) (far forget stops
   abbrev u4 : List ℕ
   u4 = take 21 u3 ++ (x4 ++ drop 8 (drop 21 u3))
 
-  pub path-numbers-is : far ≡ farBlock (f .bei) → bdi ≡ pathBdi (take 2 w0) forget f → x1 ≡ filterBytes (pathBdi (take 2 w0) forget f) → x2 ≡ statBytes t
+  pub path-numbers-is : far ≡ farBlock (f .bei) → bdi ≡ pathBdiAt (take 2 w0) forget f → x1 ≡ filterBytes (pathBdiAt (take 2 w0) forget f) → x2 ≡ statBytes t
       → x3 ≡ flagsIn (stops || tim) (bdi .on) false false (take 4 (drop 10 u2))
       → x4 ≡ countsIn (leb 1 pm && not stops) (far && not stops) (take 8 (drop 21 u3))
-      → (bdi ≡ pathBdi (bytesIn 2 0 w0) forget f) × (u4 ≡ pathNumbers w0 t forget stops tim f pm)
+      → (bdi ≡ pathBdiAt (bytesIn 2 0 w0) forget f) × (u4 ≡ pathNumbers w0 t forget stops tim f pm)
   unfolding pathNumbers
   path-numbers-is ef ed e1 e2 e3 e4 =
       let ws : List ℕ = 2 ∷ 4 ∷ 4 ∷ 4 ∷ 7 ∷ 8 ∷ [] in
@@ -129,8 +129,8 @@ module _ (w0 x1 x2 x3 x4 : List ℕ) (bdi : Filter) (t : Stat) (far forget stops
       let i0 : w0 ≡ joined ps = sym (parted-joined ws 0 w0 (sym h)) in
       let z0 = parted-sized ws 0 w0 in
       let a : take 2 w0 ≡ bytesIn 2 0 w0 = lent 0 ps w0 i0 z0 in
-      let fd : bdi ≡ pathBdi (bytesIn 2 0 w0) forget f = rw a at ed in
-      let f1 : x1 ≡ filterBytes (pathBdi (bytesIn 2 0 w0) forget f) = rw a at e1 in
+      let fd : bdi ≡ pathBdiAt (bytesIn 2 0 w0) forget f = rw a at ed in
+      let f1 : x1 ≡ filterBytes (pathBdiAt (bytesIn 2 0 w0) forget f) = rw a at e1 in
       let i1 : u1 ≡ joined qs = back 0 ps w0 x1 i0 z0 (omega arith) in
       let z1 = sized-back 0 ps x1 z0 (ap length f1) in
       let i2 : u2 ≡ joined rs = back 2 qs u1 x2 i1 z1 (omega arith) in

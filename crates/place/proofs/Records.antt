@@ -23,7 +23,7 @@ use Rattle.causes.specs.declared.PathStands.{PathStands}
 use Rattle.place.specs.declared.Filtered.{Filtered}
 use Rattle.cycle.specs.declared.Cycle.{Cycle}
 use Rattle.cycle.specs.Cycle.{cycleIn, cycleOf, tracesOf, recordParts, layerStep, timAfter}
-use Rattle.place.specs.Place.{sectionFilters, sectionNumbers, sectionIn, sectionRecord, pathStat, pathForgets, pathBdi, pathNumbers, pathIn, pathRecord}
+use Rattle.place.specs.Place.{sectionFilters, sectionNumbers, sectionStood, sectionRecord, pathStat, pathForgets, pathBdiAt, pathNumbers, pathStood, pathRecord}
 use Rattle.cycle.proofs.Parts.{lent, back}
 use Rattle.cycle.proofs.Cycles.{cycle-long}
 
@@ -41,7 +41,7 @@ module _ (b0 b1 x : List ℕ) (d : Filtered) (tim ssf : Bool) (m : Multi) (f : F
   pub section-is : tim ≡ timAfter b0 ssf m (f .tti)
       → b1 ≡ joined (recordParts b0 (cycleOf (layerStep b0 ssf m (f .tti))) (bytesIn 29 35 b0) (tracesOf (layerStep b0 ssf m (f .tti))))
       → d ≡ sectionFilters (bytesIn 6 0 (take 29 (drop 35 b1))) ssf tim f → x ≡ sectionNumbers (take 29 (drop 35 b1)) ssf tim f sm
-      → (_≡_ {A = SectionStands} (record { tim = tim; disabled = eqb (getD b0 6 0) 1; bdi = d .bdi .on; iae = d .iae .on; biae = d .biae .on; deg = eqb (getD b0 7 0) 1 }) (sectionIn b0 ssf m f))
+      → (_≡_ {A = SectionStands} (record { tim = tim; disabled = eqb (getD b0 6 0) 1; bdi = d .bdi .on; iae = d .iae .on; biae = d .biae .on; deg = eqb (getD b0 7 0) 1 }) (sectionStood b0 ssf m f))
       × (take 35 b1 ++ (x ++ drop 29 (drop 35 b1)) ≡ sectionRecord b0 ssf m f sm)
   unfolding sectionRecord
   section-is et e ed ex =
@@ -57,9 +57,9 @@ module _ (b0 b1 x : List ℕ) (bdi : Filter) (t : Stat) (s : Signal) (q : Raised
       → t ≡ statOf (record { value = getD b0 41 0; run = run; known = eqb (getD b0 43 0) 1; accepted = getD b0 44 0 }) ssf (f .stat)
       → s ≡ standsFor t → q ≡ raisedOf s → tim ≡ timAfter b0 (ssf || q .ais) m (f .tti)
       → b1 ≡ joined (recordParts b0 (cycleOf (layerStep b0 (ssf || q .ais) m (f .tti))) (bytesIn 29 35 b0) (tracesOf (layerStep b0 (ssf || q .ais) m (f .tti))))
-      → bdi ≡ pathBdi (bytesIn 2 0 (take 29 (drop 35 b1))) (ssf || q .ais) f
+      → bdi ≡ pathBdiAt (bytesIn 2 0 (take 29 (drop 35 b1))) (ssf || q .ais) f
       → x ≡ pathNumbers (take 29 (drop 35 b1)) t (ssf || q .ais) (ssf || q .ais || q .oci || q .lck) tim f pm
-      → (_≡_ {A = PathStands} (record { signal = s; tim = tim; disabled = eqb (getD b0 6 0) 1; bdi = bdi .on; deg = eqb (getD b0 7 0) 1 }) (pathIn b0 ssf m f))
+      → (_≡_ {A = PathStands} (record { signal = s; tim = tim; disabled = eqb (getD b0 6 0) 1; bdi = bdi .on; deg = eqb (getD b0 7 0) 1 }) (pathStood b0 ssf m f))
       × (take 35 b1 ++ (x ++ drop 29 (drop 35 b1)) ≡ pathRecord b0 ssf m f pm)
   unfolding pathRecord
   path-is er es eg eq et e ed ex =

@@ -87,8 +87,8 @@ sectionNumbers w ssf tim f sm =
     ∷ piece 8 (countsIn (leb 1 sm && not ssf) (farBlock (f .bei) && not ssf) (bytesIn 8 21 w))
     ∷ [])
 
-abbrev pub sectionIn : List ℕ → Bool → Multi → Field → SectionStands
-sectionIn b ssf m f =
+abbrev pub sectionStood : List ℕ → Bool → Multi → Field → SectionStands
+sectionStood b ssf m f =
     let tim : Bool = timAfter b ssf m (f .tti) in
     let d : Filtered = sectionFilters (bytesIn 6 0 (bytesIn 29 35 b)) ssf tim f in
     record { tim = tim; disabled = on (getD b 6 0); bdi = d .bdi .on; iae = d .iae .on; biae = d .biae .on; deg = on (getD b 7 0) }
@@ -102,7 +102,7 @@ abbrev pub noSection : SectionStands
 noSection = record { tim = false; disabled = false; bdi = false; iae = false; biae = false; deg = false }
 
 pub record SectionAt (b : List ℕ) (ssf : Bool) (m : Multi) (f : Field) (sm : ℕ) (r : SectionStands) (after : List ℕ) : Type 0 where
-  pub answers : r ≡ whole b (sectionIn b ssf m f) noSection
+  pub answers : r ≡ whole b (sectionStood b ssf m f) noSection
   pub holds : after ≡ whole b (sectionRecord b ssf m f sm) b
 
 -- The path: STAT is "forgotten during path SSF"; its trace and dBDI are false "in the path also during dAIS"; blocks "in the path also not
@@ -116,12 +116,12 @@ pathForgets ssf t = ssf || isAis (standsFor t)
 abbrev pub pathStops : Bool → Stat → Bool
 pathStops ssf t = ssf || isAis (standsFor t) || isOci (standsFor t) || isLck (standsFor t)
 
-abbrev pub pathBdi : List ℕ → Bool → Field → Filter
-pathBdi w forget f = filterOf (filterAt w 0) 5 forget (f .bdi)
+abbrev pub pathBdiAt : List ℕ → Bool → Field → Filter
+pathBdiAt w forget f = filterOf (filterAt w 0) 5 forget (f .bdi)
 
 unfoldable pub pathNumbers : List ℕ → Stat → Bool → Bool → Bool → Field → ℕ → List ℕ
 pathNumbers w t forget stops tim f pm =
-    let bdi : Filter = pathBdi (bytesIn 2 0 w) forget f in
+    let bdi : Filter = pathBdiAt (bytesIn 2 0 w) forget f in
     joined
     (piece 2 (filterBytes bdi)
     ∷ piece 4 (bytesIn 4 2 w)
@@ -131,14 +131,14 @@ pathNumbers w t forget stops tim f pm =
     ∷ piece 8 (countsIn (leb 1 pm && not stops) (farBlock (f .bei) && not stops) (bytesIn 8 21 w))
     ∷ [])
 
-abbrev pub pathIn : List ℕ → Bool → Multi → Field → PathStands
-pathIn b ssf m f =
+abbrev pub pathStood : List ℕ → Bool → Multi → Field → PathStands
+pathStood b ssf m f =
     let t : Stat = pathStat b ssf f in
     record {
       signal = standsFor t;
       tim = timAfter b (pathForgets ssf t) m (f .tti);
       disabled = on (getD b 6 0);
-      bdi = pathBdi (bytesIn 2 0 (bytesIn 29 35 b)) (pathForgets ssf t) f .on;
+      bdi = pathBdiAt (bytesIn 2 0 (bytesIn 29 35 b)) (pathForgets ssf t) f .on;
       deg = on (getD b 7 0);
     }
 
@@ -153,7 +153,7 @@ abbrev pub noPath : PathStands
 noPath = record { signal = Clear; tim = false; disabled = false; bdi = false; deg = false }
 
 pub record PathAt (b : List ℕ) (ssf : Bool) (m : Multi) (f : Field) (pm : ℕ) (r : PathStands) (after : List ℕ) : Type 0 where
-  pub answers : r ≡ whole b (pathIn b ssf m f) noPath
+  pub answers : r ≡ whole b (pathStood b ssf m f) noPath
   pub holds : after ≡ whole b (pathRecord b ssf m f pm) b
 
 -- The line: alignment in its strip, and a frame filed under its head.

@@ -17,7 +17,7 @@ ghost use Prim.Native.Nat.{_<_};
 ghost use lib.ListN.{length, set};
 ghost use Rattle.codec.specs.Over.{bytesIn};
 ghost use Rattle.filter.specs.Filter.{filterOf};
-ghost use Rattle.place.specs.Place.{filterAt, filterBytes, statBytes, flagsIn, countedBy, countsIn, sectionFilters, filteredBytes, sectionNumbers, sectionIn, sectionRecord, SectionAt, pathBdi, pathNumbers, pathIn, pathRecord, PathAt, LineAt, talliedIn, CloseAt, openedIn};
+ghost use Rattle.place.specs.Place.{filterAt, filterBytes, statBytes, flagsIn, countedBy, countsIn, sectionFilters, filteredBytes, sectionNumbers, sectionStood, sectionRecord, SectionAt, pathBdiAt, pathNumbers, pathStood, pathRecord, PathAt, LineAt, talliedIn, CloseAt, openedIn};
 
 // What stands at the line after a frame, and its multiframe.
 pub struct LineFrame {
@@ -122,7 +122,7 @@ fn section_numbers(w: &mut [u8], ssf: bool, tim: bool, f: Field, sm: u8) -> Filt
 // The section's record after a frame: its front and its names are not written.
 fn section_within(b: &mut [u8], ssf: bool, m: Multi, f: Field, sm: u8) -> SectionStands
     requires { ⌜ length (now b) ≡ 288 ⌝ }
-    ensures { λ r. ⌜ (r ≡ sectionIn (now (b .entry)) ssf m f) × (now (b .exit) ≡ sectionRecord (now (b .entry)) ssf m f sm) ⌝ }
+    ensures { λ r. ⌜ (r ≡ sectionStood (now (b .entry)) ssf m f) × (now (b .exit) ≡ sectionRecord (now (b .entry)) ssf m f sm) ⌝ }
 {
     let disabled = b[6] == 1;
     let deg = b[7] == 1;
@@ -177,7 +177,7 @@ fn path_numbers(
     pm: u8,
 ) -> Filter
     requires { ⌜ length (now w) ≡ 29 ⌝ }
-    ensures { λ r. ⌜ (r ≡ pathBdi (bytesIn 2 0 (now (w .entry))) forget f) × (now (w .exit) ≡ pathNumbers (now (w .entry)) t forget stops tim f pm) ⌝ }
+    ensures { λ r. ⌜ (r ≡ pathBdiAt (bytesIn 2 0 (now (w .entry))) forget f) × (now (w .exit) ≡ pathNumbers (now (w .entry)) t forget stops tim f pm) ⌝ }
 {
     let far = overhead::far_block(f.bei);
     let bdi = filter_at(&mut w[0..2], 5, forget, f.bdi);
@@ -190,7 +190,7 @@ fn path_numbers(
 // The path's record after a frame: STAT before its trace and BDI; its front and its names are not written.
 fn path_within(b: &mut [u8], ssf: bool, m: Multi, f: Field, pm: u8) -> PathStands
     requires { ⌜ length (now b) ≡ 288 ⌝ }
-    ensures { λ r. ⌜ (r ≡ pathIn (now (b .entry)) ssf m f) × (now (b .exit) ≡ pathRecord (now (b .entry)) ssf m f pm) ⌝ }
+    ensures { λ r. ⌜ (r ≡ pathStood (now (b .entry)) ssf m f) × (now (b .exit) ≡ pathRecord (now (b .entry)) ssf m f pm) ⌝ }
 {
     let disabled = b[6] == 1;
     let deg = b[7] == 1;
@@ -239,8 +239,8 @@ pub fn line_at(b: &mut [u8], four: bool, three: bool, mfas: u8, flags: u8) -> Li
 {
     let w = codec::strip_in(b, 0);
     let v = codec::strip_in(b, 32);
-    let head = numbers::head_of(w);
-    let before = numbers::align_of(v);
+    let head = numbers::head_in(w);
+    let before = numbers::align_in(v);
     let n = alignment::frames_of(head.k);
     let after = alignment::align_step(before, n, four, three, mfas);
     let x = numbers::align_bytes(after);
@@ -270,8 +270,8 @@ pub fn close_at(b: &mut [u8]) -> Blocks
 {
     let w = codec::strip_in(b, 0);
     let v = codec::strip_in(b, 32);
-    let f = numbers::front_of(w);
-    let s = numbers::state_of(v);
+    let f = numbers::front_in(w);
+    let s = numbers::state_in(v);
     let open = s.blocks;
     let done = second::discard(open, s.iaeseen, s.biaeseen);
     let before = f.deg;

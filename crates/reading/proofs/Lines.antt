@@ -17,7 +17,7 @@ use Rattle.trace.specs.declared.Run.{Run}
 use Rattle.trace.specs.declared.Stop.{Stop}
 use Rattle.trace.specs.declared.Stop.the-variants as stop
 use Rattle.trace.specs.Scan.{runOf}
-use Rattle.stream.specs.Stream.{Note, second, change, Scan, before, stopped, scanFrom, after}
+use Rattle.stream.specs.Stream.{Note, second, change, Scan, before, stopped, scanFrom, scanAfter}
 use Rattle.stream.specs.Counts.{Counted}
 use Rattle.stream.proofs.Streams.{agree}
 use Rattle.stream.proofs.Counts.{run-counted, Stands, stands}
@@ -66,24 +66,24 @@ ending c = record { told = []; state = c .state; at = c .at; frames = c .frames;
 
 -- what follows a run over a buffer
 abbrev pub onFrom : Bool → ℕ → ℕ → List ℕ → Run → Scan
-onFrom tell base n s r = scanFrom tell (drop (r .at) s) 0 (base + r .at) (n + r .frames) (r .state)
+onFrom tell base n s r = scanFrom tell (drop (r .at) s) (base + r .at) (n + r .frames) (r .state)
 
 -- what a run has come to, by why it stopped
 module _ (tell : Bool) (base n : ℕ) (st : State) (s : List ℕ) (r : Run) where
-  pub after-closed : r .stop ≡ stop.Closed → after tell base n st s r ≡ before (second (r .state .last) ∷ []) (onFrom tell base n s r)
-  unfolding after
+  pub after-closed : r .stop ≡ stop.Closed → scanAfter tell base n st s r ≡ before (second (r .state .last) ∷ []) (onFrom tell base n s r)
+  unfolding scanAfter
   after-closed e = rw e
 
-  pub after-told : r .stop ≡ stop.Told → after tell base n st s r ≡ before (change (n + r .frames) st (r .state) ∷ []) (onFrom tell base n s r)
-  unfolding after
+  pub after-told : r .stop ≡ stop.Told → scanAfter tell base n st s r ≡ before (change (n + r .frames) st (r .state) ∷ []) (onFrom tell base n s r)
+  unfolding scanAfter
   after-told e = rw e
 
-  pub after-more : r .stop ≡ stop.More → after tell base n st s r ≡ stopped (r .state) (base + r .at) (n + r .frames) 0 (drop (r .at) s)
-  unfolding after
+  pub after-more : r .stop ≡ stop.More → scanAfter tell base n st s r ≡ stopped (r .state) (base + r .at) (n + r .frames) 0 (drop (r .at) s)
+  unfolding scanAfter
   after-more e = rw e
 
-  pub after-refused : (number offset : ℕ) → r .stop ≡ stop.Refused number offset → after tell base n st s r ≡ stopped (r .state) (base + offset) (n + r .frames) number (drop offset s)
-  unfolding after
+  pub after-refused : (number offset : ℕ) → r .stop ≡ stop.Refused number offset → scanAfter tell base n st s r ≡ stopped (r .state) (base + offset) (n + r .frames) number (drop offset s)
+  unfolding scanAfter
   after-refused number offset e = rw e
 
 -- no more is put than the line has
@@ -96,9 +96,9 @@ fitted-length long at room v = by-cond (λ (l : List ℕ). length l ≤ length v
 pub record Going (from : Reading) (s d out : List ℕ) (at put : ℕ) (st : State) (frames : ℕ) : Type 0 where
   pub inside : at ≤ length s
   pub long : length out ≡ length d
-  pub same : ending (readFrom from s) ≡ ending (scanFrom (from .tell) (drop at s) 0 (from .at + at) frames st)
-  pub text : over d 0 (linesOf (readFrom from s .told)) ≡ over out put (linesOf (scanFrom (from .tell) (drop at s) 0 (from .at + at) frames st .told))
-  pub place : length (linesOf (readFrom from s .told)) ≡ put + length (linesOf (scanFrom (from .tell) (drop at s) 0 (from .at + at) frames st .told))
+  pub same : ending (readFrom from s) ≡ ending (scanFrom (from .tell) (drop at s) (from .at + at) frames st)
+  pub text : over d 0 (linesOf (readFrom from s .told)) ≡ over out put (linesOf (scanFrom (from .tell) (drop at s) (from .at + at) frames st .told))
+  pub place : length (linesOf (readFrom from s .told)) ≡ put + length (linesOf (scanFrom (from .tell) (drop at s) (from .at + at) frames st .told))
   pub room : 4 * put ≤ 422 * at
   pub counted : Counted (from .at + at) frames st
 
@@ -108,10 +108,10 @@ going-start from s d h =
     record { inside = omega arith; long = refl; same = rw z; text = rw z; place = rw z (omega arith); room = omega arith; counted = rw z h }
 
 module _ (from : Reading) (s d out : List ℕ) (at put : ℕ) (st : State) (frames : ℕ) (g : Going from s d out at put st frames) (r : Run) (e : r ≡ runOf (from .tell) s at 0 st) where
-  left-is : scanFrom (from .tell) (drop at s) 0 (from .at + at) frames st ≡ after (from .tell) (from .at) frames st s r
+  left-is : scanFrom (from .tell) (drop at s) (from .at + at) frames st ≡ scanAfter (from .tell) (from .at) frames st s r
   left-is =
-      ap (λ (n : ℕ). scanFrom (from .tell) (drop at s) 0 (from .at + at) n st) (sym (add-zero frames))
-      ∙ agree s (from .at) frames (from .tell) at 0 st ∙ ap (after (from .tell) (from .at) frames st s) (sym e)
+      ap (λ (n : ℕ). scanFrom (from .tell) (drop at s) (from .at + at) n st) (sym (add-zero frames))
+      ∙ agree s (from .at) frames (from .tell) at 0 st ∙ ap (scanAfter (from .tell) (from .at) frames st s) (sym e)
 
   pub run-stands : Stands s at r
   run-stands = rw e (stands (from .tell) s at 0 st (g .inside))
@@ -121,7 +121,7 @@ module _ (from : Reading) (s d out : List ℕ) (at put : ℕ) (st : State) (fram
   run-sound = rw e (run-counted (from .tell) s (from .at) frames at 0 st (rw (add-zero frames) (g .counted)))
 
   -- something was told of k bytes at least, and its line put, which has its room
-  pub going-on : (note : Note) (room k p : ℕ) (out₂ : List ℕ) → after (from .tell) (from .at) frames st s r ≡ before (note ∷ []) (onFrom (from .tell) (from .at) frames s r)
+  pub going-on : (note : Note) (room k p : ℕ) (out₂ : List ℕ) → scanAfter (from .tell) (from .at) frames st s r ≡ before (note ∷ []) (onFrom (from .tell) (from .at) frames s r)
       → at + k ≤ r .at → 4 * room ≤ 422 * k → length s ≤ 4096 → 432216 ≤ length d
       → p ≡ put + length (fitted (length out) put room (lineFor note)) → p ≤ put + room → out₂ ≡ over out put (fitted (length out) put room (lineFor note)) → length out₂ ≡ length out
       → Going from s d out₂ (r .at) p (r .state) (frames + r .frames)
@@ -134,7 +134,7 @@ module _ (from : Reading) (s d out : List ℕ) (at put : ℕ) (st : State) (fram
       let f : fitted (length out) put room l ≡ l = fitted-is (length out) put room l roomy in
       let ep' : p ≡ put + length l = ep ∙ ap (λ (v : List ℕ). put + length v) f in
       let eo' : out₂ ≡ over out put l = eo ∙ ap (over out put) f in
-      let w : scanFrom (from .tell) (drop at s) 0 (from .at + at) frames st ≡ before (note ∷ []) q = left-is ∙ told in
+      let w : scanFrom (from .tell) (drop at s) (from .at + at) frames st ≡ before (note ∷ []) q = left-is ∙ told in
       record {
         inside = h .inside;
         long = el ∙ g .long;
@@ -169,7 +169,7 @@ module _ (from : Reading) (s d out : List ℕ) (at put : ℕ) (st : State) (fram
 
   -- what a run has come to that ends the turn
   stops : (x : Stop) → r .stop ≡ x → haltOf x .ends ≡ true
-      → after (from .tell) (from .at) frames st s r ≡ stopped (r .state) (from .at + r .at) (frames + r .frames) (haltOf x .refusal) (drop (r .at) s)
+      → scanAfter (from .tell) (from .at) frames st s r ≡ stopped (r .state) (from .at + r .at) (frames + r .frames) (haltOf x .refusal) (drop (r .at) s)
   unfolding haltOf
   stops stop.More q z = after-more (from .tell) (from .at) frames st s r q
   stops (stop.Refused number offset) q z =
@@ -179,13 +179,13 @@ module _ (from : Reading) (s d out : List ℕ) (at put : ℕ) (st : State) (fram
   stops stop.Told q z = let w : _≡_ {A = ℕ} 0 1 = cc in absurd (omega arith)
 
   pub halts : (h : Halt) → h ≡ haltOf (r .stop) → h .ends ≡ true
-      → after (from .tell) (from .at) frames st s r ≡ stopped (r .state) (from .at + r .at) (frames + r .frames) (h .refusal) (drop (r .at) s)
+      → scanAfter (from .tell) (from .at) frames st s r ≡ stopped (r .state) (from .at + r .at) (frames + r .frames) (h .refusal) (drop (r .at) s)
   halts h p z =
       stops (r .stop) refl (ap (λ (h : Halt). h .ends) (sym p) ∙ z)
       ∙ ap (λ (h : Halt). stopped (r .state) (from .at + r .at) (frames + r .frames) (h .refusal) (drop (r .at) s)) (sym p)
 
   -- there are no more records, or one was refused
-  pub going-end : (refusal offset : ℕ) → after (from .tell) (from .at) frames st s r ≡ stopped (r .state) (from .at + offset) (frames + r .frames) refusal (drop offset s)
+  pub going-end : (refusal offset : ℕ) → scanAfter (from .tell) (from .at) frames st s r ≡ stopped (r .state) (from .at + offset) (frames + r .frames) refusal (drop offset s)
       → (record { reading = record { tell = from .tell; state = r .state; at = from .at + offset; frames = frames + r .frames }; used = offset; put = put; refusal = refusal } ≡ gatheredOf from s)
       × (out ≡ over d 0 (linesOf (readFrom from s .told)))
   unfolding linesOf

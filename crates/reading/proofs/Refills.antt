@@ -46,9 +46,9 @@ module _ (from : Reading) (held got : ℕ) (h : Sound from) (buf one two s : Lis
   pub used-few : t .used ≤ held + got
   used-few = omega (arith, ap (λ (t : Turned). t .used) turns, turn-used from s h (eqb got 0), long)
 
-  pub refilled : two ≡ over one 0 (take (held + got - t .used) (drop (t .used) one))
-      → Refill from held buf two (record { reading = t .reading; held = held + got - t .used; ended = t .done || off })
-  refilled moved =
+  pub refilled : (out put : List ℕ) → put ≡ over out 0 (writtenOf from s (eqb got 0)) → two ≡ over one 0 (take (held + got - t .used) (drop (t .used) one))
+      → Refill from held buf two out put (record { reading = t .reading; held = held + got - t .used; ended = t .done || off })
+  refilled out put written moved =
       let u = used-few in
       let p : List ℕ = take got (drop held one) in
       let lp : length p ≡ got = length-take-le got (drop held one) (simp length-drop (omega arith)) in
@@ -62,6 +62,7 @@ module _ (from : Reading) (held got : ℕ) (h : Sound from) (buf one two s : Lis
         is = is ∙ take-add held got one ∙ ap (λ (l : List ℕ). l ++ p) same;
         turned = t;
         turns = turns ∙ ap (λ (n : ℕ). turnOf from s (eqb n 0)) (sym lp);
+        written = written ∙ ap (λ (n : ℕ). over out 0 (writtenOf from s (eqb n 0))) (sym lp);
         reading = refl;
         kept =
             ap (take left) moved ∙ over-start one (take left (drop (t .used) one)) left (sym lv)

@@ -10,7 +10,7 @@ use borrow.Author.Tests.{eqb-true, eqb-false}
 use Rattle.answer.specs.Over.{over}
 use Rattle.listing.specs.Text.{fitted}
 use Rattle.listing.proofs.Overs.{then, fitted-is}
-use Rattle.stream.specs.Stream.{Note, Scan, before, scanFrom, goesOn, resume, onward, joined}
+use Rattle.stream.specs.Stream.{Note, Scan, before, scanFrom, goesOn, resume, onward, together}
 use Rattle.stream.proofs.Streams.{scan-append}
 use Rattle.stream.proofs.Counts.{start-counted, Comes, comes}
 use Rattle.reading.specs.Listing.{linesOf, tailOf, textOf, printedOf}
@@ -66,9 +66,9 @@ module _ (r : Reading) (s : List ℕ) (h : Sound r) where
       → toCome r (s ++ ys) ≡ linesOf (readFrom r s .told) ++ cond (not b) (tailOf (readFrom r s)) [] ++ cond (not b) [] (toCome (readingOf (r .tell) (readFrom r s)) (drop (readFrom r s .at - r .at) s ++ ys))
   unfolding resume
   more-by true ys e =
-      rw (scan-append (r .tell) s ys 0 (r .at) (r .frames) (r .state) (omega arith), e, append-nil, text-before (readFrom r s .told) (onward (r .tell) (readFrom r s) ys))
-      (ap (λ (z : List ℕ). linesOf (readFrom r s .told) ++ textOf (scanFrom (r .tell) (z ++ ys) 0 (readFrom r s .at) (readFrom r s .frames) (readFrom r s .state))) (k .rest))
-  more-by false ys e = rw (scan-append (r .tell) s ys 0 (r .at) (r .frames) (r .state) (omega arith), e, append-nil)
+      rw (scan-append (r .tell) s ys (r .at) (r .frames) (r .state), e, append-nil, text-before (readFrom r s .told) (onward (r .tell) (readFrom r s) ys))
+      (ap (λ (z : List ℕ). linesOf (readFrom r s .told) ++ textOf (scanFrom (r .tell) (z ++ ys) (readFrom r s .at) (readFrom r s .frames) (readFrom r s .state))) (k .rest))
+  more-by false ys e = rw (scan-append (r .tell) s ys (r .at) (r .frames) (r .state), e, append-nil)
 
   pub turn-law : TurnLaw r s
   unfolding turnOf writtenOf
@@ -110,14 +110,14 @@ module _ (r : Reading) (s : List ℕ) (h : Sound r) where
       by-got false p z = let n = eqb-false got 0 p in omega arith
 
 -- The law of reading in pieces.
-pieces-from : (r : Reading) (kept : List ℕ) (ps : List (List ℕ)) → Sound r → outputOf r kept ps ≡ toCome r (kept ++ joined ps)
-unfolding outputOf joined
+pieces-from : (r : Reading) (kept : List ℕ) (ps : List (List ℕ)) → Sound r → outputOf r kept ps ≡ toCome r (kept ++ together ps)
+unfolding outputOf together
 pieces-from r kept [] h = rw append-nil (sym (turn-law r kept h .last))
 pieces-from r kept (p ∷ ps) h =
     let s : List ℕ = kept ++ p in
     let t : Turned = turnOf r s false in
     ap (λ (z : List ℕ). writtenOf r s false ++ cond (t .done) [] z) (pieces-from (t .reading) (drop (t .used) s) ps (turn-sound r s h false))
-    ∙ sym (turn-law r s h .more (joined ps)) ∙ ap (toCome r) (append-assoc kept p (joined ps))
+    ∙ sym (turn-law r s h .more (together ps)) ∙ ap (toCome r) (append-assoc kept p (together ps))
 
 pub in-pieces : (tell : Bool) (ps : List (List ℕ)) → InPieces tell ps
 unfolding printedOf

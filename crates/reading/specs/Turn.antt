@@ -6,8 +6,9 @@ use mathlib.Core.Bool.{Bool, true, false, cond, not, _||_}
 use mathlib.Core.List.{List, [], _∷_, _++_}
 use lib.ListN.{length, take, drop}
 use lib.Dec.{eqb}
+use Rattle.answer.specs.Over.{over}
 use Rattle.trace.specs.Scan.{startOf}
-use Rattle.stream.specs.Stream.{Scan, scanFrom, goesOn, joined}
+use Rattle.stream.specs.Stream.{Scan, scanFrom, goesOn, together}
 use Rattle.stream.specs.Counts.{Counted}
 use Rattle.reading.specs.Listing.{linesOf, tailOf, textOf, printedOf}
 use Rattle.reading.specs.declared.Reading.{Reading}
@@ -23,7 +24,7 @@ readingOf tell c = record { tell = tell; state = c .state; at = c .at; frames = 
 
 -- what a reading comes to with bytes that follow it, and its scan as the program knows it
 abbrev pub readFrom : Reading → List ℕ → Scan
-readFrom r xs = scanFrom (r .tell) xs 0 (r .at) (r .frames) (r .state)
+readFrom r xs = scanFrom (r .tell) xs (r .at) (r .frames) (r .state)
 
 abbrev pub startReading : Bool → Reading
 startReading tell = record { tell = tell; state = startOf; at = 0; frames = 0 }
@@ -79,16 +80,18 @@ outputOf r kept (p ∷ ps) =
 
 -- The law of reading in pieces: however the input is cut, what is written is what is printed of the whole.
 abbrev pub InPieces : Bool → List (List ℕ) → Type 0
-InPieces tell ps = outputOf (startReading tell) [] ps ≡ printedOf tell (joined ps)
+InPieces tell ps = outputOf (startReading tell) [] ps ≡ printedOf tell (together ps)
 
--- A refill, that found `held` kept bytes at the start of `buf` and left `buf'`: there is a piece, which is what `read` put there (empty at
--- the end of the input), and the rest is a turn over the kept bytes and that piece, with the bytes that it did not use kept.
-pub record Refill (from : Reading) (held : ℕ) (buf buf' : List ℕ) (r : Refilled) : Type 0 where
+-- A refill, that found `held` kept bytes at the start of `buf` and left `buf'`, and `out'` where `out` was: there is a piece, which is what
+-- `read` put there (empty at the end of the input), and the rest is a turn over the kept bytes and that piece, with what is to be written at the
+-- start of `out'`, and the bytes that it did not use kept.
+pub record Refill (from : Reading) (held : ℕ) (buf buf' out out' : List ℕ) (r : Refilled) : Type 0 where
   pub piece : List ℕ
   pub whole : List ℕ
   pub is : whole ≡ take held buf ++ piece
   pub turned : Turned
   pub turns : turned ≡ turnOf from whole (eqb (length piece) 0)
+  pub written : out' ≡ over out 0 (writtenOf from whole (eqb (length piece) 0))
   pub reading : r .reading ≡ turned .reading
   pub kept : take (r .held) buf' ≡ drop (turned .used) whole
   pub done : turned .done ≡ true → r .ended ≡ true

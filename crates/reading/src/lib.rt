@@ -162,7 +162,7 @@ fn refill(from: Refilled, buf: &mut [u8], out: &mut [u8]) -> Refilled
     requires { ⌜ from .held < 83 ⌝ }
     requires { ⌜ length (now buf) ≡ 4096 ⌝ }
     requires { ⌜ 432216 ≤ length (now out) ⌝ }
-    ensures { λ r. ⌜ Refill (from .reading) (from .held) (now (buf .entry)) (now (buf .exit)) r ⌝ }
+    ensures { λ r. ⌜ Refill (from .reading) (from .held) (now (buf .entry)) (now (buf .exit)) (now (out .entry)) (now (out .exit)) r ⌝ }
 {
     let reading = from.reading;
     let held = from.held;

@@ -1,16 +1,16 @@
 -- Laws of `recordOf`: one for each of its five ends, what a record that is not refused says of its list, and that more bytes after it do not
--- change it. Assumes nothing.
-use Prim.Native.Nat.{ℕ, _+_, _-_, _≤_, _<_}
-use mathlib.Core.Path.{_≡_, refl}
+-- change it; and the law of `recordsFrom`, that skipping bytes is dropping them. Assumes nothing.
+use Prim.Native.Nat.{ℕ, zero, suc, pred, _+_, _-_, _≤_, _<_}
+use mathlib.Core.Path.{_≡_, refl, _∙_, ap}
 use mathlib.Core.Bool.{Bool, true, false, cond}
-use mathlib.Core.List.{List, _++_}
+use mathlib.Core.List.{List, [], _∷_, _++_}
 use native.Mathlib.Nat.{add-assoc, add-zero, add-sub-cancel-left}
 use native.Mathlib.Omega.{arith}
 use lib.Dec.{eqb, ltb}
 use lib.ListN.{length, drop, take, length-drop, length-append, List·getD-append}
 use lib.Seq.{getD-drop, drop-drop, take-append-le, drop-append-le}
 use borrow.Author.Tests.{lt-ltb, le-ltb, eq-eqb, ne-eqb, ltb-true, ltb-false, eqb-false}
-use Rattle.record.specs.Record.{recordOf, recordAt, ofKind, lengthOf, refusalOf, twoAt, bodyOf, Within}
+use Rattle.record.specs.Record.{recordOf, recordAt, ofKind, lengthOf, refusalIn, twoAt, sizeOf, recordsFrom, recordsOf, bodyOf, Within}
 use Rattle.record.specs.declared.Record.{Record}
 use Rattle.record.specs.declared.Record.the-variants.{Frame, Mark, Provisioning, Refused}
 
@@ -134,8 +134,27 @@ part-append zs ys n h =
     let m : n ≤ length (drop 4 zs) = simp length-drop (omega arith) in
     rw (drop-append-le 4 zs ys (omega arith), take-append-le n (drop 4 zs) ys m)
 
-pub body-append : (zs ys : List ℕ) (r : Record) → (refusalOf r ≡ 0) → Whole zs r → bodyOf r (zs ++ ys) ≡ bodyOf r zs
+pub body-append : (zs ys : List ℕ) (r : Record) → (refusalIn r ≡ 0) → Whole zs r → bodyOf r (zs ++ ys) ≡ bodyOf r zs
 body-append zs ys Frame e h = part-append zs ys 67 h
 body-append zs ys Mark e h = part-append zs ys 0 h
 body-append zs ys Provisioning e h = part-append zs ys 79 h
 body-append zs ys (Refused n) e h = absurd (omega (arith, e, h .0))
+
+-- the records: skipping bytes is dropping them, and after a record come those of what follows it
+records-skip : (l : List ℕ) (k : ℕ) → recordsFrom l k ≡ recordsOf (drop k l)
+unfolding recordsFrom
+records-skip [] zero = refl
+records-skip [] (suc k) = refl
+records-skip (y ∷ ys) zero = refl
+records-skip (y ∷ ys) (suc k) = records-skip ys k
+
+drop-one-more : (y : ℕ) (ys : List ℕ) (m : ℕ) → 0 < m → drop (pred m) ys ≡ drop m (y ∷ ys)
+drop-one-more y ys zero h = absurd (omega arith)
+drop-one-more y ys (suc k) h = refl
+
+pub records-next : (ys : List ℕ) → 0 < length ys → recordsOf ys ≡ ys ∷ recordsOf (drop (sizeOf (recordOf ys)) ys)
+unfolding recordsFrom
+records-next [] h = absurd (omega arith)
+records-next (y ∷ ys) h =
+    let m : ℕ = sizeOf (recordOf (y ∷ ys)) in
+    ap (λ (l : List (List ℕ)). (y ∷ ys) ∷ l) (records-skip ys (pred m) ∙ ap recordsOf (drop-one-more y ys m (omega arith)))

@@ -10,9 +10,11 @@ use denote.Ref.{now}
 use Rattle.settings.specs.declared.Request.{Request}
 use Rattle.record.specs.declared.Record.{Record}
 use Rattle.record.specs.declared.Record.the-variants.{Mark, Provisioning, Refused}
-use Rattle.record.specs.Record.{kindOf, refusalOf, ofKind, recordOf, sectionIn, pathIn}
+use Rattle.record.specs.Record.{kindOf, refusalIn, ofKind, recordOf, sectionIn, pathIn}
 use Rattle.record.proofs.length_of.Kinds as length-kinds
 use Rattle.record.proofs.length_of.Reads as length-reads
+use Rattle.record.proofs.refusal_in.Kinds as refusal-kinds
+use Rattle.record.proofs.refusal_in.Reads as refusal-reads
 use Rattle.record.proofs.frames_in.Kinds as frames-kinds
 use Rattle.record.proofs.frames_in.Reads as frames-reads
 use Rattle.record.proofs.record_at.Kinds as record-kinds
@@ -25,6 +27,10 @@ use Rattle.record.proofs.path_in.Reads as path-reads
 -- the length counts kind and body, and not its own two bytes
 pub whole-record : (κs : Lfts 0) (s : AtExit (endedOf 0 length-kinds.ps length-kinds.r) κs) → length-reads.Post κs (Provisioning, tt) 83 s → ⊥
 whole-record κs s e = let h : _≡_ {A = ℕ} 83 81 = e in omega arith
+
+-- a cut record keeps its own number
+pub cut-unknown : (κs : Lfts 0) (s : AtExit (endedOf 0 refusal-kinds.ps refusal-kinds.r) κs) → refusal-reads.Post κs (Refused 14, tt) 15 s → ⊥
+cut-unknown κs s e = let h : _≡_ {A = ℕ} 15 14 = e in omega arith
 
 -- a mark is no frame
 pub mark-counted : (κs : Lfts 0) (s : AtExit (endedOf 0 frames-kinds.ps frames-kinds.r) κs) → frames-reads.Post κs (Mark, tt) 1 s → ⊥
@@ -48,7 +54,7 @@ module _ (κs : Lfts 1) (a : Dens κs record-kinds.ps) (s : AtExit (endedOf 1 re
   -- a length that is wrong for its kind is 15, however few bytes are left
   pub wrong-cut : now (a .0) ≡ 69 ∷ 0 ∷ 2 ∷ 0 ∷ [] → record-reads.Post κs a (Refused 14) s → ⊥
   unfolding recordOf ofKind
-  wrong-cut b e = let h : _≡_ {A = ℕ} 14 15 = ap refusalOf (is (69 ∷ 0 ∷ 2 ∷ 0 ∷ []) b (Refused 14) e) in omega arith
+  wrong-cut b e = let h : _≡_ {A = ℕ} 14 15 = ap refusalIn (is (69 ∷ 0 ∷ 2 ∷ 0 ∷ []) b (Refused 14) e) in omega arith
 
 -- the first bytes of a body: k, then the section's five and the path's, then the modes
 abbrev pub body : List ℕ

@@ -3,6 +3,8 @@ use mathlib.Core.Path.{sym, _∙_}
 use Rattle.answer.specs.Answer.{OneAnswer}
 use Rattle.record.proofs.length_of.Kinds as length-kinds
 use Rattle.record.proofs.length_of.Reads as length-reads
+use Rattle.record.proofs.refusal_in.Kinds as refusal-kinds
+use Rattle.record.proofs.refusal_in.Reads as refusal-reads
 use Rattle.record.proofs.frames_in.Kinds as frames-kinds
 use Rattle.record.proofs.frames_in.Reads as frames-reads
 use Rattle.record.proofs.record_at.Kinds as record-kinds
@@ -14,6 +16,9 @@ use Rattle.record.proofs.path_in.Reads as path-reads
 
 pub length-one : OneAnswer 0 length-kinds.ps length-kinds.r length-reads.Post
 length-one κs a x y s t p q = p ∙ sym q
+
+pub refusal-one : OneAnswer 0 refusal-kinds.ps refusal-kinds.r refusal-reads.Post
+refusal-one κs a x y s t p q = p ∙ sym q
 
 pub frames-one : OneAnswer 0 frames-kinds.ps frames-kinds.r frames-reads.Post
 frames-one κs a x y s t p q = p ∙ sym q

@@ -1,7 +1,7 @@
 -- A trace's records: what a list of bytes begins with (document 01, "Trace records and the listing"). Assumes nothing.
-use Prim.Native.Nat.{ℕ, _+_, _-_, _*_, _≤_}
+use Prim.Native.Nat.{ℕ, zero, suc, pred, _+_, _-_, _*_, _≤_}
 use mathlib.Core.Bool.{cond}
-use mathlib.Core.List.{List}
+use mathlib.Core.List.{List, [], _∷_}
 use lib.ListN.{length, getD, drop, take}
 use lib.Dec.{ltb, eqb}
 use Rattle.settings.specs.declared.Request.{Request}
@@ -23,11 +23,11 @@ lengthOf Provisioning = 81
 lengthOf (Refused n) = 0
 
 -- and the refusal, 0 where there is none
-abbrev pub refusalOf : Record → ℕ
-refusalOf Frame = 0
-refusalOf Mark = 0
-refusalOf Provisioning = 0
-refusalOf (Refused n) = n
+abbrev pub refusalIn : Record → ℕ
+refusalIn Frame = 0
+refusalIn Mark = 0
+refusalIn Provisioning = 0
+refusalIn (Refused n) = n
 
 -- two bytes and four, "all little-endian"
 abbrev pub twoAt : List ℕ → ℕ → ℕ
@@ -60,6 +60,15 @@ recordAt s at = recordOf (drop at s)
 -- the bytes of a record, its length among them
 abbrev pub sizeOf : Record → ℕ
 sizeOf r = lengthOf r + 2
+
+-- The records of a list of bytes, each as the bytes from it on: skip the rest of the present record, then take the next.
+unfoldable pub recordsFrom : List ℕ → ℕ → List (List ℕ)
+recordsFrom [] skip = []
+recordsFrom (y ∷ ys) (suc k) = recordsFrom ys k
+recordsFrom (y ∷ ys) zero = (y ∷ ys) ∷ recordsFrom ys (pred (sizeOf (recordOf (y ∷ ys))))
+
+abbrev pub recordsOf : List ℕ → List (List ℕ)
+recordsOf xs = recordsFrom xs 0
 
 -- the body of a record that a list begins with: what follows the length and the kind
 abbrev pub bodyOf : Record → List ℕ → List ℕ

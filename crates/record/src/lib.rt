@@ -3,7 +3,7 @@ use settings::Request;
 ghost use mathlib.Core.Path.{_≡_};
 ghost use Prim.Native.Nat.{_<_};
 ghost use lib.ListN.{getD};
-ghost use Rattle.record.specs.Record.{recordAt, lengthOf, ofKind, framesIn, twoAt, requestAt, sectionIn, pathIn};
+ghost use Rattle.record.specs.Record.{recordAt, lengthOf, refusalIn, ofKind, framesIn, twoAt, requestAt, sectionIn, pathIn};
 
 // One record. A body stands after the length and the kind, four bytes from the record's start.
 pub enum Record {
@@ -65,6 +65,18 @@ pub fn length_of(r: Record) -> usize
         Record::Mark => 2,
         Record::Provisioning => 81,
         Record::Refused(_) => 0,
+    }
+}
+
+// The refusal that a record is, 0 where it is none.
+pub fn refusal_in(r: Record) -> u8
+    ensures { λ n. ⌜ n ≡ refusalIn r ⌝ }
+{
+    match r {
+        Record::Frame => 0,
+        Record::Mark => 0,
+        Record::Provisioning => 0,
+        Record::Refused(no) => no,
     }
 }
 

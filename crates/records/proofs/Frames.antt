@@ -1,5 +1,5 @@
 -- A frame in the records of a supervisor in its ranges is the frame of the definitions. Assumes nothing.
-use Prim.Native.Nat.{ℕ, zero, suc, _+_, _≤_, _<_, zero-le}
+use Prim.Native.Nat.{ℕ, suc, _+_, _≤_, _<_}
 use mathlib.Core.Path.{_≡_, refl, sym, ap, _∙_}
 use mathlib.Core.Bool.{Bool, true, false, cond}
 use mathlib.Core.List.{List, [], _∷_, _++_, append-nil}
@@ -26,9 +26,10 @@ use Rattle.frame.specs.Layers.{lineOf, sectionOf, sectionStands, pathOf, pathSt
 use Rattle.supervisor.specs.declared.Supervisor.{Supervisor}
 use Rattle.supervisor.specs.Supervisor.{standsAfter, frameOf}
 use Rattle.history.specs.Ranges.{AllAtMost, Ranged}
+use Rattle.history.proofs.Ranges.{most-at}
 use Rattle.numbers.specs.Numbers.{headBytes, headIn, alignBytes, alignIn}
 use Rattle.numbers.proofs.Strips.{align-back}
-use Rattle.image.specs.Image.{headOf as lineHead, sectionHeld, pathHeld}
+use Rattle.image.specs.Image.{lineHead, sectionHeld, pathHeld}
 use Rattle.image.proofs.Ranges.{arrays-of}
 use Rattle.place.specs.Place.{alignAfter, talliedIn}
 use Rattle.records.specs.Records.{lineFront, InFrame}
@@ -51,11 +52,6 @@ ten n (a ∷ b ∷ c ∷ d ∷ e ∷ f ∷ g ∷ []) p = absurd (omega arith)
 ten n (a ∷ b ∷ c ∷ d ∷ e ∷ f ∷ g ∷ h ∷ []) p = absurd (omega arith)
 ten n (a ∷ b ∷ c ∷ d ∷ e ∷ f ∷ g ∷ h ∷ i ∷ []) p = absurd (omega arith)
 ten n (a ∷ b ∷ c ∷ d ∷ e ∷ f ∷ g ∷ h ∷ i ∷ j ∷ k ∷ l) p = absurd (omega arith)
-
-most-at : (n : ℕ) (l : List ℕ) (i : ℕ) → AllAtMost n l → getD l i 0 ≤ n
-most-at n [] i a = zero-le
-most-at n (x ∷ xs) zero a = a .0
-most-at n (x ∷ xs) (suc i) a = most-at n xs i (a .1)
 
 -- one more under a head
 under : (n : ℕ) (h : List ℕ) (head : ℕ) → head < 10 → length h ≡ 10 → AllAtMost 400000 h

@@ -33,7 +33,7 @@ use Rattle.numbers.proofs.Strips.{flag-back, StateFits}
 use Rattle.image.specs.Image.{Sizes}
 use Rattle.cycle.specs.Cycle.{cycleBytes, cycleOf, tracesOf, recordParts, layerStep, timAfter}
 use Rattle.place.specs.declared.Filtered.{Filtered}
-use Rattle.place.specs.Place.{filterBytes, statBytes, raised, countsIn, sectionFilters, filteredBytes, sectionNumbers, sectionIn, sectionRecord, SectionAt, pathStat, pathForgets, pathStops, pathBdi, pathNumbers, pathIn, pathRecord, PathAt}
+use Rattle.place.specs.Place.{filterBytes, statBytes, raised, countsIn, sectionFilters, filteredBytes, sectionNumbers, sectionStood, sectionRecord, SectionAt, pathStat, pathForgets, pathStops, pathBdiAt, pathNumbers, pathStood, pathRecord, PathAt}
 use Rattle.records.proofs.Held.{filter-back, stat-back, raise-flag, counts-is, before-rest, others, long, front-part, others-part, names-part, quieted, step-is, tim-is, layer-is}
 
 -- the count of a block, as a number
@@ -155,7 +155,7 @@ module _ (h : Held) (z : Sizes h) (fits : StateFits (h .state)) where
           deg = l .deg .on;
         }
 
-    pub section-stands : sectionIn bytes ssf m f ≡ standsBy sectionLayer
+    pub section-stands : sectionStood bytes ssf m f ≡ standsBy sectionLayer
     unfolding heldBytes timOf
     section-stands =
         let t : Bool = timAfter bytes ssf m (f .tti) in
@@ -193,7 +193,7 @@ module _ (h : Held) (z : Sizes h) (fits : StateFits (h .state)) where
   unfolding heldBytes
   stat-is ssf f = ap (λ (s : Stat). statOf s ssf (f .stat)) (stat-back (h .state .stat) (fits .stat))
 
-  bdi-is : (forget : Bool) (f : Field) → pathBdi (bytesIn 2 0 (others h z)) forget f ≡ filterOf (h .state .bdi) 5 forget (f .bdi)
+  bdi-is : (forget : Bool) (f : Field) → pathBdiAt (bytesIn 2 0 (others h z)) forget f ≡ filterOf (h .state .bdi) 5 forget (f .bdi)
   unfolding bytesIn
   bdi-is forget f = ap (λ (x : Filter). filterOf x 5 forget (f .bdi)) (filter-back (h .state .bdi) (fits .bdi))
 
@@ -263,18 +263,18 @@ module _ (h : Held) (z : Sizes h) (fits : StateFits (h .state)) where
     abbrev pub pathBy : Layer → PathStands
     pathBy l = record { signal = standsFor t; tim = timOf l (h .front .mode) (h .names); disabled = h .front .disabled; bdi = l .bdi .on; deg = l .deg .on }
 
-    pub path-stands : pathIn (heldBytes h) ssf m f ≡ pathBy pathLayer
+    pub path-stands : pathStood (heldBytes h) ssf m f ≡ pathBy pathLayer
     unfolding heldBytes timOf
     path-stands =
         let r : List ℕ = heldBytes h in
         let x : Bool = on (flag (h .front .disabled)) in
         let y : Bool = on (flag (h .front .deg .on)) in
-        let first : Stat → PathStands = λ (s : Stat). record { signal = standsFor s; tim = timAfter r (pathForgets ssf s) m (f .tti); disabled = x; bdi = pathBdi (bytesIn 2 0 (bytesIn 29 35 r)) (pathForgets ssf s) f .on; deg = y } in
+        let first : Stat → PathStands = λ (s : Stat). record { signal = standsFor s; tim = timAfter r (pathForgets ssf s) m (f .tti); disabled = x; bdi = pathBdiAt (bytesIn 2 0 (bytesIn 29 35 r)) (pathForgets ssf s) f .on; deg = y } in
         let shape : Bool → Filter → Bool → Bool → PathStands = λ (u : Bool). λ (b : Filter). λ (a : Bool). λ (c : Bool). record { signal = standsFor t; tim = u; disabled = a; bdi = b .on; deg = c } in
         let bdi : Filter = filterOf (h .state .bdi) 5 forget (f .bdi) in
         ap first (stat-is ssf f)
-        ∙ ap (λ (u : Bool). shape u (pathBdi (bytesIn 2 0 (bytesIn 29 35 r)) forget f) x y) (tim-is h z fits forget m (f .tti))
-        ∙ ap (λ (w : List ℕ). shape timPath (pathBdi (bytesIn 2 0 w) forget f) x y) (others-part h z)
+        ∙ ap (λ (u : Bool). shape u (pathBdiAt (bytesIn 2 0 (bytesIn 29 35 r)) forget f) x y) (tim-is h z fits forget m (f .tti))
+        ∙ ap (λ (w : List ℕ). shape timPath (pathBdiAt (bytesIn 2 0 w) forget f) x y) (others-part h z)
         ∙ ap (λ (b : Filter). shape timPath b x y) (bdi-is forget f)
         ∙ ap (λ (a : Bool). shape timPath bdi a y) (flag-back (h .front .disabled))
         ∙ ap (λ (a : Bool). shape timPath bdi (h .front .disabled) a) (flag-back (h .front .deg .on))

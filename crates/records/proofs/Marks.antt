@@ -23,7 +23,7 @@ use Rattle.numbers.specs.Numbers.{headBytes, alignBytes, frontBytes, frontIn, s
 use Rattle.numbers.specs.Held.{Held, heldPieces, heldBytes}
 use Rattle.numbers.proofs.Strips.{FrontFits, StateFits, front-back, state-back}
 use Rattle.records.proofs.Held.{section-fits, path-fits}
-use Rattle.image.specs.Image.{countsOf, headOf, linePieces, sectionHeld, pathHeld, Sizes}
+use Rattle.image.specs.Image.{countsOf, lineHead, linePieces, sectionHeld, pathHeld, Sizes}
 use Rattle.image.proofs.Bytes.{counts-long, held-sized}
 use Rattle.image.proofs.Ranges.{arrays-of}
 use Rattle.place.specs.Place.{CloseAt, openedIn}
@@ -113,7 +113,7 @@ line-opened : (s : Supervisor)
 unfolding openedIn nextSecond
 line-opened s =
     let head : Head = record { k = s .settings .k; seconds = s .seconds + 1 } in
-    laid-line (headBytes (headOf s)) (alignBytes (s .layers .align)) (flat (countsOf (s .second))) (headBytes head) (flat (countsOf freshSecond))
+    laid-line (headBytes (lineHead s)) (alignBytes (s .layers .align)) (flat (countsOf (s .second))) (headBytes head) (flat (countsOf freshSecond))
     refl refl (counts-long s) refl (counts-long (nextSecond s))
 
 -- The numbers of a supervisor in its ranges fit.

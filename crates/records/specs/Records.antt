@@ -18,7 +18,7 @@ use Rattle.supervisor.specs.declared.Supervisor.{Supervisor}
 use Rattle.supervisor.specs.Supervisor.{standsAfter, frameOf, nextSecond}
 use Rattle.numbers.specs.Numbers.{headBytes, alignBytes}
 use Rattle.numbers.specs.Held.{heldBytes}
-use Rattle.image.specs.Image.{headOf as lineHead, countsOf, linePieces, sectionHeld, pathHeld}
+use Rattle.image.specs.Image.{lineHead, countsOf, linePieces, sectionHeld, pathHeld}
 use Rattle.place.specs.declared.LineFrame.{LineFrame}
 use Rattle.place.specs.Place.{LineAt, SectionAt, PathAt, talliedIn, CloseAt, openedIn}
 

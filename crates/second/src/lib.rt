@@ -181,7 +181,7 @@ pub fn closed(c: Second) -> Second
 }
 
 // 1 for true.
-fn bit(b: bool) -> u32
+fn flag_of(b: bool) -> u32
     ensures { λ r. ⌜ r ≡ flag b ⌝ }
 {
     b as u32
@@ -209,12 +209,12 @@ pub fn figures(number: u32, c: Second) -> [u32; 20]
         h[9],
         s.near.0,
         s.far.0,
-        bit(s.neards),
-        bit(s.fards),
+        flag_of(s.neards),
+        flag_of(s.fards),
         p.near.0,
         p.far.0,
-        bit(p.neards),
-        bit(p.fards),
+        flag_of(p.neards),
+        flag_of(p.fards),
     ]
 }
 

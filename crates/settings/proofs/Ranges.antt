@@ -10,7 +10,7 @@ use borrow.Author.Tests.{leb-true, eqb-true}
 use Rattle.answer.proofs.Cond.{by-cond, and-left, and-right}
 use Rattle.answer.proofs.Checks.{passed}
 use Rattle.settings.specs.Settings.{settingsChecks, settingsRefusal, ceilingOf, thrGood, degmGood, optionsOf}
-use Rattle.settings.specs.Ranges.{OptionsIn, SettingsIn}
+use Rattle.settings.specs.Ranges.{OptionsIn, ProvisionedIn}
 use Rattle.settings.specs.declared.Request.{Request}
 
 ceiling-most : (k : ℕ) → ceilingOf k ≤ 329492
@@ -35,8 +35,7 @@ options-in k r names t d m e =
     }
 
 -- an accepted provisioning
-pub provisioned-in : (k : ℕ) (section path : Request) (snames pnames : List ℕ) → settingsRefusal k section path snames pnames ≡ 0
-    → SettingsIn (record { k = k; section = optionsOf section snames; path = optionsOf path pnames })
+pub provisioned-in : ProvisionedIn
 unfolding settingsRefusal
 provisioned-in k section path snames pnames e =
     let p = passed 10 (settingsChecks k section path snames pnames) refl e in

@@ -21,9 +21,9 @@ use Rattle.supervisor.specs.declared.Provisioned.{Provisioned}
 use Rattle.supervisor.specs.declared.Stepped.{Stepped}
 use Rattle.supervisor.specs.declared.Marked.{Marked}
 use Rattle.supervisor.specs.declared.Supervisor.{Supervisor}
-use Rattle.record.specs.Record.{recordOf, sizeOf, bodyOf, framesIn, sectionIn, pathIn}
+use Rattle.record.specs.Record.{recordOf, recordsFrom, sizeOf, bodyOf, framesIn, sectionIn, pathIn}
 use Rattle.trace.specs.Scan.{startOf, stepIn, framedOf, markedOf, provisionedOf, appliedOf, takenOf, runOf}
-use Rattle.stream.specs.Stream.{Scan, scanFrom}
+use Rattle.stream.specs.Stream.{Scan, scanOver, scanFrom}
 use Rattle.stream.specs.Counts.{Counted}
 use Rattle.record.specs.declared.Record.{Record}
 use Rattle.record.specs.declared.Record.the-variants.{Frame, Mark, Provisioning, Refused}
@@ -32,8 +32,8 @@ use Rattle.trace.specs.declared.Taken.{Taken}
 use Rattle.trace.specs.declared.Run.{Run}
 use Rattle.trace.specs.declared.Stop.the-variants as stop
 use Rattle.record.proofs.Records.{Whole, whole-record}
-use Rattle.trace.proofs.Scans.{sized, run-end, run-refused, run-closed, run-told, run-on}
-use Rattle.stream.proofs.Streams.{along, some-left, scan-refused, scan-on}
+use Rattle.trace.proofs.Scans.{sized, some-left, run-end, run-refused, run-closed, run-told, run-on}
+use Rattle.stream.proofs.Streams.{along, scan-refused, scan-on}
 
 -- the refusal of each call is that of its tests
 zero-or : (n : ℕ) (t : Bool) → eqb n 0 ≡ t → cond t 0 n ≡ n
@@ -111,7 +111,7 @@ mark-marks s =
     (λ e _. record { room = ltb-true _ _ e; none = refl; more = refl; twenty = refl })
     (λ _ e. absurd (omega (arith, e)))
 
-pub provision-none : (k : ℕ) (section path : Request) (snames pnames : List ℕ) → (provisionOf k section path snames pnames .supervisor .seconds ≡ 0) × (provisionOf k section path snames pnames .supervisor .second .frames .0 ≡ 0)
+provision-none : (k : ℕ) (section path : Request) (snames pnames : List ℕ) → (provisionOf k section path snames pnames .supervisor .seconds ≡ 0) × (provisionOf k section path snames pnames .supervisor .second .frames .0 ≡ 0)
 unfolding provisionOf
 provision-none k section path snames pnames =
     by-cond (λ (p : Provisioned). (p .supervisor .seconds ≡ 0) × (p .supervisor .second .frames .0 ≡ 0)) (eqb (settingsRefusal k section path snames pnames) 0) (λ _. (refl, refl)) (λ _. (refl, refl))
@@ -180,8 +180,8 @@ module _ (tell : Bool) (s : List ℕ) (base m : ℕ) where
   run-counted =
       along s Keeps
       (λ at n st l h. rw (run-end tell s at n st l) h)
-      (λ at n st l z h. rw (run-refused tell (drop at s) at n st (some-left s at l) z) h)
-      (λ at n st l e c _ h. rw (run-closed tell (drop at s) at n st (some-left s at l) e c) (next at n st e h))
+      (λ at n st l z h. rw (run-refused (drop at s) at n st tell (some-left s at l) z) h)
+      (λ at n st l e c _ h. rw (run-closed (drop at s) at n st e tell c) (next at n st e h))
       (λ at n st l e c ih h. further tell refl at n st l e c ih h)
     where
       next : (at n : ℕ) (st : State) → takenOf st (drop at s) .refusal ≡ 0 → Counted (base + at) (m + n) st
@@ -190,7 +190,7 @@ module _ (tell : Bool) (s : List ℕ) (base m : ℕ) where
 
       further : (b : Bool) → tell ≡ b → (at n : ℕ) (st : State) → at < length s → takenOf st (drop at s) .refusal ≡ 0 → takenOf st (drop at s) .closed ≡ false
           → Keeps (at + sizeOf (recordOf (drop at s))) (n + framesIn (recordOf (drop at s))) (takenOf st (drop at s) .state) → Keeps at n st
-      further true z at n st l e c ih h = rw (z, run-told (drop at s) at n st (some-left s at l) e c) (next at n st e h)
+      further true z at n st l e c ih h = rw (z, run-told (drop at s) at n st e c) (next at n st e h)
       further false z at n st l e c ih h = rw (z, run-on (drop at s) at n st e c, drop-drop (sizeOf (recordOf (drop at s))) at s) (rw z at (ih (next at n st e h)))
 
 -- an accepted record that closes no second is no mark: it has 71 bytes at least
@@ -235,7 +235,7 @@ module _ (tell : Bool) (s : List ℕ) where
         same = λ m o q. absurd-stop cc;
         cut = λ o q. absurd-stop cc;
       }))
-      (λ at n st l z w. rw (run-refused tell (drop at s) at n st (some-left s at l) z) (record {
+      (λ at n st l z w. rw (run-refused (drop at s) at n st tell (some-left s at l) z) (record {
         later = omega arith;
         inside = w;
         further = λ q. absurd-stop cc;
@@ -246,7 +246,7 @@ module _ (tell : Bool) (s : List ℕ) where
       }))
       (λ at n st l e c _ w.
       let z = sized st (drop at s) e in
-      rw (run-closed tell (drop at s) at n st (some-left s at l) e c) (record {
+      rw (run-closed (drop at s) at n st e tell c) (record {
         later = omega arith;
         inside = omega (arith, simp length-drop at (z .long));
         further = λ _. omega (arith, z .some);
@@ -261,7 +261,7 @@ module _ (tell : Bool) (s : List ℕ) where
           → Standing (at + sizeOf (recordOf (drop at s))) (n + framesIn (recordOf (drop at s))) (takenOf st (drop at s) .state) → Stands s at (runOf tell s at n st)
       quietly true b at n st l e c ih =
           let z = sized st (drop at s) e in
-          rw (b, run-told (drop at s) at n st (some-left s at l) e c) (record {
+          rw (b, run-told (drop at s) at n st e c) (record {
             later = omega arith;
             inside = omega (arith, simp length-drop at (z .long));
             further = λ q. absurd-stop cc;
@@ -295,10 +295,10 @@ pub record Comes (s : List ℕ) (base at : ℕ) (c : Scan) : Type 0 where
 
 module _ (tell : Bool) (s : List ℕ) (base m : ℕ) where
   abbrev Coming : ℕ → ℕ → State → Type 0
-  Coming at n st = Counted (base + at) (m + n) st → Comes s base at (scanFrom tell (drop at s) 0 (base + at) (m + n) st)
+  Coming at n st = Counted (base + at) (m + n) st → Comes s base at (scanFrom tell (drop at s) (base + at) (m + n) st)
 
   coming-end : (at n : ℕ) (st : State) → length s ≤ at → Coming at n st
-  unfolding scanFrom
+  unfolding scanOver recordsFrom
   coming-end at n st l h =
       let z : drop at s ≡ [] = drop-of-length-le s l in
       rw z (record {
@@ -340,7 +340,7 @@ module _ (tell : Bool) (s : List ℕ) (base m : ℕ) where
   coming : (at n : ℕ) (st : State) → Coming at n st
   coming = along s Coming coming-end coming-refused (λ at n st l e c h. coming-on at n st l e h) (λ at n st l e c h. coming-on at n st l e h)
 
-pub comes : (tell : Bool) (s : List ℕ) (at n : ℕ) (st : State) → Counted at n st → Comes s at 0 (scanFrom tell s 0 at n st)
+pub comes : (tell : Bool) (s : List ℕ) (at n : ℕ) (st : State) → Counted at n st → Comes s at 0 (scanFrom tell s at n st)
 comes tell s at n st h =
-    subst (λ (k : ℕ). Comes s at 0 (scanFrom tell s 0 at k st)) (add-zero n)
-    (subst (λ (k : ℕ). Comes s at 0 (scanFrom tell s 0 k (n + 0) st)) (add-zero at) (coming tell s at n 0 0 st (rw (add-zero at, add-zero n) h)))
+    subst (λ (k : ℕ). Comes s at 0 (scanFrom tell s at k st)) (add-zero n)
+    (subst (λ (k : ℕ). Comes s at 0 (scanFrom tell s k (n + 0) st)) (add-zero at) (coming tell s at n 0 0 st (rw (add-zero at, add-zero n) h)))

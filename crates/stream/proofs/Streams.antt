@@ -3,18 +3,19 @@ use Prim.Native.Nat.{ℕ, zero, suc, pred, _+_, _-_, _≤_, _<_}
 use mathlib.Core.Path.{_≡_, refl, _∙_, ap, sym}
 use mathlib.Core.Bool.{Bool, true, false, cond}
 use mathlib.Core.List.{List, [], _∷_, _++_, append-assoc, append-nil}
-use native.Mathlib.Nat.{add-assoc, add-zero}
+use native.Mathlib.Nat.{add-assoc}
 use native.Mathlib.Omega.{arith}
 use lib.Dec.{eqb, ltb}
 use lib.ListN.{length, drop, length-drop, drop-of-length-le}
 use lib.Seq.{drop-drop}
 use borrow.Author.Tests.{eq-eqb, ne-eqb, ltb-true, ltb-false, eqb-true, eqb-false}
-use Rattle.record.specs.Record.{recordOf, sizeOf, framesIn}
+use Rattle.record.specs.Record.{recordOf, recordsFrom, sizeOf, framesIn}
 use Rattle.trace.specs.Scan.{startOf, takenOf, runOf}
-use Rattle.stream.specs.Stream.{Note, Scan, before, stopped, noted, scanFrom, scanOf, goesOn, resume, onward, feedOf, joined, after}
+use Rattle.stream.specs.Stream.{Note, Scan, before, stopped, noted, scanOver, scanFrom, scanOf, goesOn, resume, onward, feedOf, together, InAnyPieces, scanAfter}
 use Rattle.trace.specs.declared.State.{State}
 use Rattle.trace.specs.declared.Taken.{Taken}
-use Rattle.trace.proofs.Scans.{sized, taken-append, run-end, run-refused, run-closed, run-told, run-on}
+use Rattle.record.proofs.Records.{records-next}
+use Rattle.trace.proofs.Scans.{sized, taken-append, some-bytes, some-left, run-end, run-refused, run-closed, run-told, run-on}
 
 resume-before : (tell : Bool) (l : List Note) (c : Scan) (ys : List ℕ) → resume tell (before l c) ys ≡ before l (resume tell c ys)
 unfolding resume
@@ -30,69 +31,63 @@ pred-le : (n m : ℕ) → n ≤ suc m → pred n ≤ m
 pred-le zero m h = omega arith
 pred-le (suc n) m h = omega arith
 
--- The law: a longer list is scanned by going on from where the scan of its first part stands.
-pub scan-append : (tell : Bool) (xs ys : List ℕ) (k at n : ℕ) (st : State) → k ≤ length xs → scanFrom tell (xs ++ ys) k at n st ≡ resume tell (scanFrom tell xs k at n st) ys
-unfolding scanFrom resume
-scan-append tell [] ys zero at n st h = refl
-scan-append tell [] ys (suc k) at n st h = absurd (omega arith)
-scan-append tell (x ∷ xs) ys (suc k) at n st h = scan-append tell xs ys k (at + 1) n st (omega arith)
-scan-append tell (x ∷ xs) ys zero at n st h = by-cut (eqb (takenOf st (x ∷ xs) .refusal) 14) refl (λ k m u l. scan-append tell xs ys k (at + 1) m u l)
+-- The law: a longer list is scanned by going on from where the scan of its first part stands; k bytes of it are to be skipped.
+over-append : (tell : Bool) (xs ys : List ℕ) (k at n : ℕ) (st : State) → k ≤ length xs
+    → scanOver tell (recordsFrom (xs ++ ys) k) at n st ≡ resume tell (scanOver tell (recordsFrom xs k) at n st) ys
+unfolding scanOver recordsFrom resume
+over-append tell [] ys zero at n st h = refl
+over-append tell [] ys (suc k) at n st h = absurd (omega arith)
+over-append tell (x ∷ xs) ys (suc k) at n st h = over-append tell xs ys k at n st (omega arith)
+over-append tell (x ∷ xs) ys zero at n st h = by-cut (eqb (takenOf st (x ∷ xs) .refusal) 14) refl (over-append tell xs ys)
   where
     t : Taken
     t = takenOf st (x ∷ xs)
 
-    by-zero : (b : Bool) → eqb (t .refusal) 0 ≡ b → ((k m : ℕ) (u : State) → k ≤ length xs → scanFrom tell (xs ++ ys) k (at + 1) m u ≡ resume tell (scanFrom tell xs k (at + 1) m u) ys) → (t .refusal ≡ 14 → ⊥) → scanFrom tell (x ∷ xs ++ ys) zero at n st ≡ resume tell (scanFrom tell (x ∷ xs) zero at n st) ys
+    On : Type 0
+    On = (k at n : ℕ) (st : State) → k ≤ length xs → scanOver tell (recordsFrom (xs ++ ys) k) at n st ≡ resume tell (scanOver tell (recordsFrom xs k) at n st) ys
+
+    by-zero : (b : Bool) → eqb (t .refusal) 0 ≡ b → On → (t .refusal ≡ 14 → ⊥) → scanFrom tell (x ∷ xs ++ ys) at n st ≡ resume tell (scanFrom tell (x ∷ xs) at n st) ys
     by-zero true p ih z =
         let e = taken-append st (x ∷ xs) ys z in
         let w = sized st (x ∷ xs) (eqb-true (t .refusal) 0 p) in
         let m : ℕ = n + framesIn (recordOf (x ∷ xs)) in
-        let j : ℕ = pred (sizeOf (recordOf (x ∷ xs))) in
+        let j : ℕ = sizeOf (recordOf (x ∷ xs)) in
         rw (e .0, e .1, p)
-        (ap (before (noted tell m st t)) (ih j m (t .state) (pred-le _ _ (w .long)))
-        ∙ sym (resume-before tell (noted tell m st t) (scanFrom tell xs j (at + 1) m (t .state)) ys))
+        (ap (before (noted tell m st t)) (ih (pred j) (at + j) m (t .state) (pred-le _ _ (w .long)))
+        ∙ sym (resume-before tell (noted tell m st t) (scanOver tell (recordsFrom xs (pred j)) (at + j) m (t .state)) ys))
     by-zero false p ih z =
         let e = taken-append st (x ∷ xs) ys z in
         rw (e .0, p, p, ne-eqb (t .refusal) 14 z)
 
-    by-cut : (b : Bool) → eqb (t .refusal) 14 ≡ b → ((k m : ℕ) (u : State) → k ≤ length xs → scanFrom tell (xs ++ ys) k (at + 1) m u ≡ resume tell (scanFrom tell xs k (at + 1) m u) ys) → scanFrom tell (x ∷ xs ++ ys) zero at n st ≡ resume tell (scanFrom tell (x ∷ xs) zero at n st) ys
+    by-cut : (b : Bool) → eqb (t .refusal) 14 ≡ b → On → scanFrom tell (x ∷ xs ++ ys) at n st ≡ resume tell (scanFrom tell (x ∷ xs) at n st) ys
     by-cut true p ih = rw (eqb-true (t .refusal) 14 p)
     by-cut false p ih = by-zero (eqb (t .refusal) 0) refl ih (eqb-false (t .refusal) 14 p)
 
+pub scan-append : (tell : Bool) (xs ys : List ℕ) (at n : ℕ) (st : State) → scanFrom tell (xs ++ ys) at n st ≡ resume tell (scanFrom tell xs at n st) ys
+scan-append tell xs ys at n st = over-append tell xs ys 0 at n st (omega arith)
+
 -- The law for a trace: the scan of the whole is the scan of its first part, gone on with.
 pub scan-more : (tell : Bool) (xs ys : List ℕ) → scanOf tell (xs ++ ys) ≡ resume tell (scanOf tell xs) ys
-scan-more tell xs ys = scan-append tell xs ys 0 0 0 startOf (omega arith)
+scan-more tell xs ys = scan-append tell xs ys 0 0 startOf
 
--- The law for pieces, however the trace is cut into them: feeding them one by one gives the scan of the whole.
-pub scan-pieces : (tell : Bool) (xs : List ℕ) (ps : List (List ℕ)) → feedOf tell (scanOf tell xs) ps ≡ scanOf tell (xs ++ joined ps)
-unfolding feedOf joined
-scan-pieces tell xs [] = rw append-nil
-scan-pieces tell xs (p ∷ ps) = rw (← scan-more tell xs p) (scan-pieces tell (xs ++ p) ps ∙ rw append-assoc)
+-- The law for pieces.
+pub scan-pieces : (tell : Bool) (xs : List ℕ) (ps : List (List ℕ)) → InAnyPieces tell xs ps
+unfolding feedOf together
+scan-pieces tell xs [] = ap (scanOf tell) (sym (append-nil xs))
+scan-pieces tell xs (p ∷ ps) =
+    ap (λ (c : Scan). feedOf tell c ps) (sym (scan-more tell xs p)) ∙ scan-pieces tell (xs ++ p) ps ∙ ap (scanOf tell) (append-assoc xs p (together ps))
 
 -- the scan at a list: a refusal, and on
-scan-skipped : (tell : Bool) (ys : List ℕ) (k at n : ℕ) (st : State) → k ≤ length ys → scanFrom tell ys k at n st ≡ scanFrom tell (drop k ys) 0 (at + k) n st
-unfolding scanFrom
-scan-skipped tell ys zero at n st h = rw add-zero
-scan-skipped tell (y ∷ ys) (suc k) at n st h =
-    scan-skipped tell ys k (at + 1) n st (omega arith) ∙ ap (λ (m : ℕ). scanFrom tell (drop k ys) 0 m n st) (omega arith)
-scan-skipped tell [] (suc k) at n st h = absurd (omega arith)
-
-scan-on-by : (tell : Bool) (y : ℕ) (ys : List ℕ) (m at n : ℕ) (st : State) → 0 < m → m ≤ length (y ∷ ys) → scanFrom tell ys (pred m) (at + 1) n st ≡ scanFrom tell (drop m (y ∷ ys)) 0 (at + m) n st
-scan-on-by tell y ys zero at n st h l = absurd (omega arith)
-scan-on-by tell y ys (suc k) at n st h l = scan-skipped tell ys k (at + 1) n st (omega arith) ∙ ap (λ (m : ℕ). scanFrom tell (drop k ys) 0 m n st) (omega arith)
-
-pub scan-refused : (tell : Bool) (ys : List ℕ) (at n : ℕ) (st : State) → 0 < length ys → (takenOf st ys .refusal ≡ 0 → ⊥) → scanFrom tell ys 0 at n st ≡ stopped st at n (takenOf st ys .refusal) ys
-unfolding scanFrom
-scan-refused tell [] at n st h z = absurd (omega arith)
-scan-refused tell (y ∷ ys) at n st h z = rw (ne-eqb _ _ z)
+pub scan-refused : (tell : Bool) (ys : List ℕ) (at n : ℕ) (st : State) → 0 < length ys → (takenOf st ys .refusal ≡ 0 → ⊥)
+    → scanFrom tell ys at n st ≡ stopped st at n (takenOf st ys .refusal) ys
+unfolding scanOver
+scan-refused tell ys at n st h z = rw (records-next ys h, ne-eqb _ _ z)
 
 pub scan-on : (tell : Bool) (ys : List ℕ) (at n : ℕ) (st : State) → takenOf st ys .refusal ≡ 0
-    → scanFrom tell ys 0 at n st ≡ before (noted tell (n + framesIn (recordOf ys)) st (takenOf st ys)) (scanFrom tell (drop (sizeOf (recordOf ys)) ys) 0 (at + sizeOf (recordOf ys)) (n + framesIn (recordOf ys)) (takenOf st ys .state))
-unfolding scanFrom
-scan-on tell [] at n st e = let z = sized st [] e in absurd (omega (arith, z .some, z .long))
-scan-on tell (y ∷ ys) at n st e =
-    let z = sized st (y ∷ ys) e in
-    rw (eq-eqb _ _ e)
-    (ap (before (noted tell (n + framesIn (recordOf (y ∷ ys))) st (takenOf st (y ∷ ys)))) (scan-on-by tell y ys (sizeOf (recordOf (y ∷ ys))) at (n + framesIn (recordOf (y ∷ ys))) (takenOf st (y ∷ ys) .state) (omega (arith, z .some)) (z .long)))
+    → scanFrom tell ys at n st
+    ≡ before (noted tell (n + framesIn (recordOf ys)) st (takenOf st ys)) (scanFrom tell (drop (sizeOf (recordOf ys)) ys) (at + sizeOf (recordOf ys)) (n + framesIn (recordOf ys)) (takenOf st ys .state))
+unfolding scanOver
+scan-on tell ys at n st e = rw (records-next ys (some-bytes st ys e), eq-eqb _ _ e)
 
 -- What holds of a run at each position of s, if it does at later ones: the end, a refusal, a second closed, and on.
 module _ (s : List ℕ) (P : ℕ → ℕ → State → Type 0)
@@ -132,47 +127,44 @@ module _ (s : List ℕ) (P : ℕ → ℕ → State → Type 0)
   pub along : (at n : ℕ) (st : State) → P at n st
   along at n st = by-fuel (length s - at) at n st (omega arith)
 
-pub some-left : (s : List ℕ) (at : ℕ) → at < length s → 0 < length (drop at s)
-some-left s at l = simp length-drop (omega arith)
-
 -- The law for a buffer: what `scan` answers of a buffer that starts at the offset base, m frames before it, is the scan from there on.
 module _ (tell : Bool) (s : List ℕ) (base m : ℕ) where
   abbrev From : ℕ → ℕ → State → Scan
-  From at n st = scanFrom tell (drop at s) 0 (base + at) (m + n) st
+  From at n st = scanFrom tell (drop at s) (base + at) (m + n) st
 
   -- where the run ends, meets a refusal, or closes a second, whatever state it began in
-  agree-end : (u : State) (at n : ℕ) (st : State) → length s ≤ at → From at n st ≡ after tell base m u s (runOf tell s at n st)
-  unfolding after scanFrom
+  agree-end : (u : State) (at n : ℕ) (st : State) → length s ≤ at → From at n st ≡ scanAfter tell base m u s (runOf tell s at n st)
+  unfolding scanAfter scanOver recordsFrom
   agree-end u at n st l = rw (run-end tell s at n st l, drop-of-length-le s l)
 
-  agree-refused : (u : State) (at n : ℕ) (st : State) → at < length s → (takenOf st (drop at s) .refusal ≡ 0 → ⊥) → From at n st ≡ after tell base m u s (runOf tell s at n st)
-  unfolding after
-  agree-refused u at n st l z = rw (run-refused tell (drop at s) at n st (some-left s at l) z, scan-refused tell (drop at s) (base + at) (m + n) st (some-left s at l) z)
+  agree-refused : (u : State) (at n : ℕ) (st : State) → at < length s → (takenOf st (drop at s) .refusal ≡ 0 → ⊥) → From at n st ≡ scanAfter tell base m u s (runOf tell s at n st)
+  unfolding scanAfter
+  agree-refused u at n st l z = rw (run-refused (drop at s) at n st tell (some-left s at l) z, scan-refused tell (drop at s) (base + at) (m + n) st (some-left s at l) z)
 
   agree-closed : (u : State) (at n : ℕ) (st : State) → at < length s → takenOf st (drop at s) .refusal ≡ 0 → takenOf st (drop at s) .closed ≡ true
-      → From at n st ≡ after tell base m u s (runOf tell s at n st)
-  unfolding after
+      → From at n st ≡ scanAfter tell base m u s (runOf tell s at n st)
+  unfolding scanAfter
   agree-closed u at n st l e c =
-      rw (run-closed tell (drop at s) at n st (some-left s at l) e c, scan-on tell (drop at s) (base + at) (m + n) st e, c, drop-drop (sizeOf (recordOf (drop at s))) at s, add-assoc, add-assoc)
+      rw (run-closed (drop at s) at n st e tell c, scan-on tell (drop at s) (base + at) (m + n) st e, c, drop-drop (sizeOf (recordOf (drop at s))) at s, add-assoc, add-assoc)
 
 module _ (s : List ℕ) (base m : ℕ) where
   -- records that are not told: the run goes on over them
-  agree-quiet : (u : State) (at n : ℕ) (st : State) → scanFrom false (drop at s) 0 (base + at) (m + n) st ≡ after false base m u s (runOf false s at n st)
+  agree-quiet : (u : State) (at n : ℕ) (st : State) → scanFrom false (drop at s) (base + at) (m + n) st ≡ scanAfter false base m u s (runOf false s at n st)
   agree-quiet u =
-      along s (λ at n st. scanFrom false (drop at s) 0 (base + at) (m + n) st ≡ after false base m u s (runOf false s at n st))
+      along s (λ at n st. scanFrom false (drop at s) (base + at) (m + n) st ≡ scanAfter false base m u s (runOf false s at n st))
       (agree-end false s base m u) (agree-refused false s base m u)
       (λ at n st l e c _. agree-closed false s base m u at n st l e c)
       (λ at n st l e c h. rw (run-on (drop at s) at n st e c, scan-on false (drop at s) (base + at) (m + n) st e, c, drop-drop (sizeOf (recordOf (drop at s))) at s, add-assoc, add-assoc) h)
 
   -- records that are told, one at a time
-  agree-told : (at n : ℕ) (st : State) → scanFrom true (drop at s) 0 (base + at) (m + n) st ≡ after true base m st s (runOf true s at n st)
-  unfolding after
+  agree-told : (at n : ℕ) (st : State) → scanFrom true (drop at s) (base + at) (m + n) st ≡ scanAfter true base m st s (runOf true s at n st)
+  unfolding scanAfter
   agree-told =
-      along s (λ at n st. scanFrom true (drop at s) 0 (base + at) (m + n) st ≡ after true base m st s (runOf true s at n st))
+      along s (λ at n st. scanFrom true (drop at s) (base + at) (m + n) st ≡ scanAfter true base m st s (runOf true s at n st))
       (λ at n st. agree-end true s base m st at n st) (λ at n st. agree-refused true s base m st at n st)
       (λ at n st l e c _. agree-closed true s base m st at n st l e c)
-      (λ at n st l e c _. rw (run-told (drop at s) at n st (some-left s at l) e c, scan-on true (drop at s) (base + at) (m + n) st e, c, drop-drop (sizeOf (recordOf (drop at s))) at s, add-assoc, add-assoc))
+      (λ at n st l e c _. rw (run-told (drop at s) at n st e c, scan-on true (drop at s) (base + at) (m + n) st e, c, drop-drop (sizeOf (recordOf (drop at s))) at s, add-assoc, add-assoc))
 
-  pub agree : (tell : Bool) (at n : ℕ) (st : State) → scanFrom tell (drop at s) 0 (base + at) (m + n) st ≡ after tell base m st s (runOf tell s at n st)
+  pub agree : (tell : Bool) (at n : ℕ) (st : State) → scanFrom tell (drop at s) (base + at) (m + n) st ≡ scanAfter tell base m st s (runOf tell s at n st)
   agree false at n st = agree-quiet st at n st
   agree true at n st = agree-told at n st

@@ -1,23 +1,21 @@
--- Demand 3 for the reader: the figures of every closed second, from the trace's own records. Assumes nothing.
-use Prim.Native.Nat.{ℕ, zero, suc, pred, _+_}
+-- Demand 3 for the reader: all that is told of a trace, in its order, by the trace's own records. Assumes nothing.
+use Prim.Native.Nat.{ℕ, _+_}
 use mathlib.Core.Path.{_≡_}
 use mathlib.Core.Bool.{Bool, true, false, cond}
-use mathlib.Core.List.{List, [], _∷_, _++_}
+use mathlib.Core.List.{List, [], _∷_, _++_, map}
 use lib.Dec.{eqb}
 use lib.ListN.{getD, take}
 use Rattle.causes.specs.Causes.{nothingStands}
 use Rattle.history.specs.History.{Frame as Sent, Event, frame, mark, standsAt, eventOf, after, Accepted}
-use Rattle.history.specs.Ledger.{Demand3, marks}
-use Rattle.second.specs.Second.{closedOf, figuresOf}
-use Rattle.supervisor.specs.Supervisor.{freshOf}
-use Rattle.causes.specs.declared.Standing.{Standing}
+use Rattle.history.specs.Ledger.{Demand3, lineFigures, marks}
+use Rattle.supervisor.specs.Supervisor.{freshOf, markOf}
 use Rattle.settings.specs.declared.Settings.{Settings}
 use Rattle.supervisor.specs.declared.Supervisor.{Supervisor}
 use Rattle.record.specs.declared.Record.{Record}
 use Rattle.record.specs.declared.Record.the-variants.{Frame, Mark, Provisioning, Refused}
 use Rattle.trace.specs.declared.State.{State}
 use Rattle.trace.specs.declared.Taken.{Taken}
-use Rattle.record.specs.Record.{recordOf, sizeOf, bodyOf}
+use Rattle.record.specs.Record.{recordOf, recordsOf, bodyOf}
 use Rattle.trace.specs.Scan.{startOf, takenOf}
 use Rattle.stream.specs.Stream.{Note, second, change, Scan, scanOf}
 
@@ -28,31 +26,21 @@ eventIn Mark body = mark ∷ []
 eventIn Provisioning body = []
 eventIn (Refused n) body = []
 
--- the frames and marks of a list of bytes up to the first record refused, a number of bytes of the present record to be skipped
-unfoldable pub eventsFrom : List ℕ → ℕ → State → List Event
-eventsFrom [] skip st = []
-eventsFrom (y ∷ ys) (suc k) st = eventsFrom ys k st
-eventsFrom (y ∷ ys) zero st =
-    let r : Record = recordOf (y ∷ ys) in
-    let t : Taken = takenOf st (y ∷ ys) in
-    cond (eqb (t .refusal) 0) (eventIn r (bodyOf r (y ∷ ys)) ++ eventsFrom ys (pred (sizeOf r)) (t .state)) []
+-- the frames and marks of records up to the first that is refused
+unfoldable pub eventsOver : List (List ℕ) → State → List Event
+eventsOver [] st = []
+eventsOver (ys ∷ rs) st =
+    let r : Record = recordOf ys in
+    let t : Taken = takenOf st ys in
+    cond (eqb (t .refusal) 0) (eventIn r (bodyOf r ys) ++ eventsOver rs (t .state)) []
 
 -- the accepted frames and marks of a trace
 abbrev pub eventsOf : List ℕ → List Event
-eventsOf xs = eventsFrom xs 0 startOf
+eventsOf xs = eventsOver (recordsOf xs) startOf
 
 -- the settings of its provisioning, which is its first record
 abbrev pub settingsIn : List ℕ → Settings
 settingsIn xs = takenOf startOf xs .state .sup .settings
-
--- A line's figures: those of the second that a mark of the history closes, which says of its frames what demand 3 says.
-pub record Line (p : Settings) (h : List Event) (figures : List ℕ) : Type 0 where
-  pub earlier : List Event
-  pub later : List Event
-  pub is : h ≡ earlier ++ (mark ∷ later)
-  pub accepted : Accepted (freshOf p) earlier
-  pub figure : figures ≡ figuresOf (after (freshOf p) earlier .seconds + 1) (closedOf (after (freshOf p) earlier .second))
-  pub demand : Demand3 p earlier
 
 -- how many frames are among events
 abbrev pub framesAmong : List Event → ℕ
@@ -60,51 +48,48 @@ framesAmong [] = 0
 framesAmong (frame f ∷ es) = 1 + framesAmong es
 framesAmong (mark ∷ es) = framesAmong es
 
--- what stands after the last frame of a history, from a supervisor on; before its first frame what is given
-unfoldable pub standsOver : Supervisor → Standing → List Event → Standing
-standsOver s d [] = d
-standsOver s d (frame f ∷ es) = standsOver (eventOf s (frame f)) (standsAt s f) es
-standsOver s d (mark ∷ es) = standsOver (eventOf s mark) d es
+-- the state after the provisioning, and after each event that is accepted: a frame leaves what stands after it, a mark its figures
+abbrev pub provisioned : Settings → State
+provisioned p = record { begun = true; sup = freshOf p; last = startOf .last; standing = nothingStands }
 
--- a state is that of a history: its supervisor, and what stands after the history's last frame
-pub record Stood (p : Settings) (h : List Event) (st : State) : Type 0 where
-  pub sup : st .sup ≡ after (freshOf p) h
-  pub stands : st .standing ≡ standsOver (freshOf p) nothingStands h
+abbrev pub afterEvent : State → Event → State
+afterEvent st (frame f) = record { begun = true; sup = eventOf (st .sup) (frame f); last = st .last; standing = standsAt (st .sup) f }
+afterEvent st mark = record { begun = true; sup = eventOf (st .sup) mark; last = markOf (st .sup) .figures; standing = st .standing }
 
--- A change: the states before and after a frame of the history, and that frame's number.
-pub record Changed (p : Settings) (h : List Event) (n : ℕ) (was is : State) : Type 0 where
-  pub earlier : List Event
-  pub sent : Sent
-  pub later : List Event
-  pub at : h ≡ earlier ++ (frame sent ∷ later)
-  pub number : n ≡ framesAmong earlier + 1
-  pub before : Stood p earlier was
-  pub after : Stood p (earlier ++ (frame sent ∷ [])) is
+-- What events tell from a state on, n frames being accepted before them: a mark the figures of its second; a frame, where every record is told,
+-- its number and the states before and after it.
+unfoldable pub toldBy : Bool → ℕ → State → List Event → List Note
+toldBy tell n st [] = []
+toldBy tell n st (frame f ∷ es) = cond tell (change (n + 1) st (afterEvent st (frame f)) ∷ []) [] ++ toldBy tell (n + 1) (afterEvent st (frame f)) es
+toldBy tell n st (mark ∷ es) = second (markOf (st .sup) .figures) ∷ toldBy tell n (afterEvent st mark) es
 
--- of each second and of each change that was told
-abbrev pub Each : (List ℕ → Type 0) → (ℕ → State → State → Type 0) → List Note → Type 0
-Each P Q [] = Unit {0}
-Each P Q (second f ∷ ns) = P f × Each P Q ns
-Each P Q (change n was is ∷ ns) = Q n was is × Each P Q ns
+-- what is told of the provisioning, where it is accepted and every record is told
+abbrev pub toldFirst : Bool → List ℕ → List Note
+toldFirst tell xs = cond (eqb (takenOf startOf xs .refusal) 0) (cond tell (change 0 startOf (provisioned (settingsIn xs)) ∷ []) []) []
 
--- what is told of a record after the provisioning is a change (the provisioning itself changes nothing that stands)
-abbrev pub Change : Settings → List Event → ℕ → State → State → Type 0
-Change p h n was is = was .begun ≡ true → Changed p h n was is
+-- the figures of the seconds among what was told, in their order
+abbrev pub figuresTold : List Note → List (List ℕ)
+figuresTold [] = []
+figuresTold (second f ∷ ns) = f ∷ figuresTold ns
+figuresTold (change n b a ∷ ns) = figuresTold ns
 
--- Demand 3 for the reader: the scan of every trace tells seconds whose figures are those of demand 3, from the trace's own records, and
--- where every record is told the changes from frame to frame.
-abbrev pub ReaderDemand3 : Bool → List ℕ → Type 0
-ReaderDemand3 tell xs = Each (Line (settingsIn xs) (eventsOf xs)) (Change (settingsIn xs) (eventsOf xs)) (scanOf tell xs .told)
+-- The figures of the lines S of events, in their order and by the frames alone: the open second has the number n, it began with the supervisor s,
+-- and fs are its frames so far.
+unfoldable pub linesFrom : ℕ → Supervisor → List Sent → List Event → List (List ℕ)
+linesFrom n s fs [] = []
+linesFrom n s fs (frame f ∷ es) = linesFrom n s (fs ++ (f ∷ [])) es
+linesFrom n s fs (mark ∷ es) = lineFigures n s fs ∷ linesFrom (n + 1) (eventOf (after s (map frame fs)) mark) [] es
 
--- how many seconds were told
-abbrev pub secondsAmong : List Note → ℕ
-secondsAmong [] = 0
-secondsAmong (second f ∷ ns) = 1 + secondsAmong ns
-secondsAmong (change n b a ∷ ns) = secondsAmong ns
+-- Demand 3 for the reader, of every trace: its frames and marks up to the first record refused are accepted; all that its scan tells, in its
+-- order, is what they tell; the figures told are those of the lines S, a line for each mark; and each mark closes a second as demand 3 says.
+pub record ReaderDemand3 (tell : Bool) (xs : List ℕ) : Type 0 where
+  pub accepted : Accepted (freshOf (settingsIn xs)) (eventsOf xs)
+  pub told : scanOf tell xs .told ≡ toldFirst tell xs ++ toldBy tell 0 (provisioned (settingsIn xs)) (eventsOf xs)
+  pub figures : figuresTold (scanOf tell xs .told) ≡ linesFrom 1 (freshOf (settingsIn xs)) [] (eventsOf xs)
+  pub demand : (earlier later : List Event) → eventsOf xs ≡ earlier ++ (mark ∷ later) → Demand3 (settingsIn xs) earlier
 
--- "E: marks and frames accepted": a scan tells a second for each mark accepted, and counts the frames and the marks accepted.
+-- "E: marks and frames accepted": a scan counts the marks and the frames accepted.
 pub record ReaderCounts (tell : Bool) (xs : List ℕ) : Type 0 where
-  pub lines : secondsAmong (scanOf tell xs .told) ≡ marks (eventsOf xs)
   pub marks : scanOf tell xs .state .sup .seconds ≡ marks (eventsOf xs)
   pub frames : scanOf tell xs .frames ≡ framesAmong (eventsOf xs)
 

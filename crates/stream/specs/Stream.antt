@@ -1,5 +1,6 @@
 -- The scan of a whole trace, and the scan of it in pieces (document 01, "Trace records and the listing"). Assumes nothing.
-use Prim.Native.Nat.{ℕ, zero, suc, pred, _+_}
+use Prim.Native.Nat.{ℕ, _+_}
+use mathlib.Core.Path.{_≡_}
 use mathlib.Core.Bool.{Bool, true, cond}
 use mathlib.Core.List.{List, [], _∷_, _++_}
 use lib.Dec.{eqb}
@@ -10,7 +11,7 @@ use Rattle.trace.specs.declared.Run.{Run}
 use Rattle.trace.specs.declared.Stop.{Stop}
 use Rattle.trace.specs.declared.Stop.the-variants as stop
 use Rattle.trace.specs.declared.State.{State}
-use Rattle.record.specs.Record.{recordOf, sizeOf, framesIn}
+use Rattle.record.specs.Record.{recordOf, recordsOf, sizeOf, framesIn}
 use Rattle.trace.specs.Scan.{takenOf, startOf}
 
 -- What is told of an accepted record: the figures of the second that it closed; or, where every record is told, the number of frames accepted
@@ -41,21 +42,23 @@ before l c = record { told = l ++ c .told; state = c .state; at = c .at; frames 
 abbrev pub noted : Bool → ℕ → State → Taken → List Note
 noted tell n st t = cond (t .closed) (second (t .state .last) ∷ []) (cond tell (change n st (t .state) ∷ []) [])
 
--- The scan of a list of bytes at an offset, n frames before it: skip the rest of the present record, then take the next. "The scan ends at
--- the first record refused."
-unfoldable pub scanFrom : Bool → List ℕ → ℕ → ℕ → ℕ → State → Scan
-scanFrom tell [] skip at n st = stopped st at n 0 []
-scanFrom tell (y ∷ ys) (suc k) at n st = scanFrom tell ys k (at + 1) n st
-scanFrom tell (y ∷ ys) zero at n st =
-    let r : Record = recordOf (y ∷ ys) in
-    let t : Taken = takenOf st (y ∷ ys) in
+-- The scan of records at an offset, n frames before it. "The scan ends at the first record refused."
+unfoldable pub scanOver : Bool → List (List ℕ) → ℕ → ℕ → State → Scan
+scanOver tell [] at n st = stopped st at n 0 []
+scanOver tell (ys ∷ rs) at n st =
+    let r : Record = recordOf ys in
+    let t : Taken = takenOf st ys in
     cond (eqb (t .refusal) 0)
-    (before (noted tell (n + framesIn r) st t) (scanFrom tell ys (pred (sizeOf r)) (at + 1) (n + framesIn r) (t .state)))
-    (stopped st at n (t .refusal) (y ∷ ys))
+    (before (noted tell (n + framesIn r) st t) (scanOver tell rs (at + sizeOf r) (n + framesIn r) (t .state)))
+    (stopped st at n (t .refusal) ys)
+
+-- the scan of a list of bytes
+abbrev pub scanFrom : Bool → List ℕ → ℕ → ℕ → State → Scan
+scanFrom tell xs at n st = scanOver tell (recordsOf xs) at n st
 
 -- the scan of a whole trace
 abbrev pub scanOf : Bool → List ℕ → Scan
-scanOf tell xs = scanFrom tell xs 0 0 0 startOf
+scanOf tell xs = scanFrom tell xs 0 0 startOf
 
 -- a scan goes on with more bytes where nothing was refused or the record was cut (14)
 abbrev pub goesOn : ℕ → Bool
@@ -63,7 +66,7 @@ goesOn n = cond (eqb n 0) true (eqb n 14)
 
 -- the scan of what is left of a scan with more bytes after it, from where it stands
 abbrev pub onward : Bool → Scan → List ℕ → Scan
-onward tell c ys = scanFrom tell (c .rest ++ ys) 0 (c .at) (c .frames) (c .state)
+onward tell c ys = scanFrom tell (c .rest ++ ys) (c .at) (c .frames) (c .state)
 
 -- a scan with more bytes
 unfoldable pub resume : Bool → Scan → List ℕ → Scan
@@ -77,17 +80,21 @@ unfoldable pub feedOf : Bool → Scan → List (List ℕ) → Scan
 feedOf tell c [] = c
 feedOf tell c (p ∷ ps) = feedOf tell (resume tell c p) ps
 
-unfoldable pub joined : List (List ℕ) → List ℕ
-joined [] = []
-joined (p ∷ ps) = p ++ joined ps
+unfoldable pub together : List (List ℕ) → List ℕ
+together [] = []
+together (p ∷ ps) = p ++ together ps
+
+-- The law of the stream: however a trace is cut into a first piece and more, feeding them one by one gives the scan of the whole.
+abbrev pub InAnyPieces : Bool → List ℕ → List (List ℕ) → Type 0
+InAnyPieces tell xs ps = feedOf tell (scanOf tell xs) ps ≡ scanOf tell (xs ++ together ps)
 
 -- What a run over a buffer's records has come to, as a scan: the buffer starts at the offset base, with n frames before it, and the run
 -- began in the state st.
-unfoldable pub after : Bool → ℕ → ℕ → State → List ℕ → Run → Scan
-after tell base n st s r = by-stop (r .stop)
+unfoldable pub scanAfter : Bool → ℕ → ℕ → State → List ℕ → Run → Scan
+scanAfter tell base n st s r = by-stop (r .stop)
   where
     on : Scan
-    on = scanFrom tell (drop (r .at) s) 0 (base + r .at) (n + r .frames) (r .state)
+    on = scanFrom tell (drop (r .at) s) (base + r .at) (n + r .frames) (r .state)
 
     by-stop : Stop → Scan
     by-stop stop.More = stopped (r .state) (base + r .at) (n + r .frames) 0 (drop (r .at) s)

@@ -11,12 +11,12 @@ use denote.Triple.Clauses.{AtExit}
 use denote.Ref.{now}
 use Rattle.settings.specs.Settings.{settingsRefusal, thrGood, ceilingOf, degmGood}
 use Rattle.supervisor.specs.Supervisor.{provisionOf}
-use Rattle.record.specs.Record.{recordOf, ofKind}
+use Rattle.record.specs.Record.{recordOf, ofKind, recordsFrom}
 use Rattle.trace.specs.declared.State.{State}
 use Rattle.trace.specs.declared.Run.{Run}
 use Rattle.trace.specs.declared.Stop.{Stop}
 use Rattle.trace.specs.declared.Stop.the-variants as stop
-use Rattle.trace.specs.Scan.{startOf, markedOf, provisionedOf, takenOf, runFrom}
+use Rattle.trace.specs.Scan.{startOf, markedOf, provisionedOf, takenOf, runOver, runOf}
 use Rattle.trace.proofs.start.Kinds as start-kinds
 use Rattle.trace.proofs.start.Reads as start-reads
 use Rattle.trace.proofs.scan.Kinds as scan-kinds
@@ -50,26 +50,26 @@ toldIn (stop.Refused number offset) = 0
 -- scanned from the start, with no record told
 module _ (κs : Lfts 1) (a : Dens κs scan-kinds.ps) (s : AtExit (endedOf 1 scan-kinds.ps scan-kinds.r) κs) (y : Run) (e : scan-reads.Post κs a y s)
     (quiet : a .0 ≡ false) (st : a .1 .0 ≡ startOf) (from : a .1 .1 .1 .0 ≡ 0) where
-  is : (bytes : List ℕ) → now (a .1 .1 .0) ≡ bytes → y ≡ runFrom false bytes 0 0 0 startOf
+  is : (bytes : List ℕ) → now (a .1 .1 .0) ≡ bytes → y ≡ runOf false bytes 0 0 startOf
   is bytes b = e ∙ rw (quiet, st, from, b)
 
   -- the offset is that of the record refused, not of the one after it
   pub offset-late : now (a .1 .1 .0) ≡ one-mark → y .stop ≡ stop.Refused 16 4 → ⊥
-  unfolding runFrom takenOf recordOf ofKind markedOf
+  unfolding runOver recordsFrom takenOf recordOf ofKind markedOf
   offset-late b f =
       let h : _≡_ {A = ℕ} 4 0 = ap offsetIn (sym f ∙ ap (λ (r : Run). r .stop) (is one-mark b)) in
       omega arith
 
   -- nothing is told where it is not asked
   pub told-unasked : now (a .1 .1 .0) ≡ one-provisioning → y .stop ≡ stop.Told → ⊥
-  unfolding runFrom takenOf recordOf ofKind provisionedOf provisionOf settingsRefusal thrGood ceilingOf degmGood
+  unfolding runOver recordsFrom takenOf recordOf ofKind provisionedOf provisionOf settingsRefusal thrGood ceilingOf degmGood
   told-unasked b f =
       let h : _≡_ {A = ℕ} 1 0 = ap toldIn (sym f ∙ ap (λ (r : Run). r .stop) (is one-provisioning b)) in
       omega arith
 
   -- the section is provisioned before the path
   pub layers-swapped : now (a .1 .1 .0) ≡ one-provisioning → y .state .sup .settings .section .thr ≡ 2 → ⊥
-  unfolding runFrom takenOf recordOf ofKind provisionedOf provisionOf settingsRefusal thrGood ceilingOf degmGood
+  unfolding runOver recordsFrom takenOf recordOf ofKind provisionedOf provisionOf settingsRefusal thrGood ceilingOf degmGood
   layers-swapped b f =
       let h : _≡_ {A = ℕ} 2 1 = sym f ∙ ap (λ (r : Run). r .state .sup .settings .section .thr) (is one-provisioning b) in
       omega arith

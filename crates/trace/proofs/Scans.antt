@@ -1,25 +1,24 @@
--- Laws of `takenOf` and `runFrom`, and those of one turn of the loop of `scan`. Assumes nothing.
-use Prim.Native.Nat.{ℕ, zero, suc, pred, _+_, _≤_, _<_}
+-- Laws of `takenOf` and `runOver`, and those of one turn of the loop of `scan`. Assumes nothing.
+use Prim.Native.Nat.{ℕ, _+_, _≤_, _<_}
 use mathlib.Core.Path.{_≡_, refl, _∙_, ap, sym}
 use mathlib.Core.Bool.{Bool, true, false}
-use mathlib.Core.List.{List, [], _∷_, _++_}
-use native.Mathlib.Nat.{add-zero}
+use mathlib.Core.List.{List, _++_}
 use native.Mathlib.Omega.{arith}
 use lib.ListN.{length, drop, length-drop, drop-of-length-le}
 use lib.Seq.{drop-drop}
 use borrow.Author.Tests.{eq-eqb, ne-eqb}
-use Rattle.record.specs.Record.{recordOf, recordAt, refusalOf, sizeOf, bodyOf, framesIn, Within}
-use Rattle.trace.specs.Scan.{refusedOf, appliedOf, takenOf, runFrom, runOf}
+use Rattle.record.specs.Record.{recordOf, recordAt, recordsFrom, recordsOf, refusalIn, sizeOf, bodyOf, framesIn, Within}
+use Rattle.trace.specs.Scan.{refusedOf, appliedOf, takenOf, runOver, runOf}
 use Rattle.record.specs.declared.Record.{Record}
 use Rattle.record.specs.declared.Record.the-variants.{Frame, Mark, Provisioning, Refused}
 use Rattle.trace.specs.declared.State.{State}
 use Rattle.trace.specs.declared.Taken.{Taken}
 use Rattle.trace.specs.declared.Stop.the-variants as stop
-use Rattle.record.proofs.Records.{Whole, whole-record, within-at, record-append, body-append}
+use Rattle.record.proofs.Records.{Whole, whole-record, within-at, record-append, body-append, records-next}
 
 -- an accepted record is none that is refused, and lies within; it has four bytes at least, and is one frame at most
 pub record Sized (ys : List ℕ) (r : Record) : Type 0 where
-  pub good : refusalOf r ≡ 0
+  pub good : refusalIn r ≡ 0
   pub some : 4 ≤ sizeOf r
   pub most : sizeOf r ≤ 83
   pub long : sizeOf r ≤ length ys
@@ -34,6 +33,9 @@ sized-by st ys body (Refused n) h e = absurd (omega (arith, h .0, e))
 pub sized : (st : State) (ys : List ℕ) → takenOf st ys .refusal ≡ 0 → Sized ys (recordOf ys)
 unfolding takenOf
 sized st ys e = sized-by st ys (bodyOf (recordOf ys) ys) (recordOf ys) (whole-record ys) e
+
+pub some-bytes : (st : State) (ys : List ℕ) → takenOf st ys .refusal ≡ 0 → 0 < length ys
+some-bytes st ys e = let z = sized st ys e in omega (arith, z .some, z .long)
 
 -- a record that is refused itself is taken with its refusal
 applied-refused : (st : State) (body : List ℕ) (r : Record) (n : ℕ) → r ≡ Refused n → appliedOf st r body ≡ refusedOf st n
@@ -56,54 +58,38 @@ taken-append st zs ys n =
     let e : recordOf (zs ++ ys) ≡ recordOf zs = record-append zs ys (λ z. n (ap (λ (r : Record). appliedOf st r (bodyOf (recordOf zs) zs) .refusal) z)) in
     (ap (λ (r : Record). appliedOf st r (bodyOf r (zs ++ ys))) e ∙ by-good st zs ys (recordOf zs) (whole-record zs), e)
 
--- the run: skipping
-skipped : (tell : Bool) (ys : List ℕ) (k at n : ℕ) (st : State) → k ≤ length ys → runFrom tell ys k at n st ≡ runFrom tell (drop k ys) 0 (at + k) n st
-unfolding runFrom
-skipped tell ys zero at n st h = rw add-zero
-skipped tell (y ∷ ys) (suc k) at n st h =
-    skipped tell ys k (at + 1) n st (omega arith) ∙ ap (λ (m : ℕ). runFrom tell (drop k ys) 0 m n st) (omega arith)
-skipped tell [] (suc k) at n st h = absurd (omega arith)
-
 -- the run at a list: its end, a refusal, a second closed, a record told, and on
 pub run-end : (tell : Bool) (s : List ℕ) (at n : ℕ) (st : State) → length s ≤ at → runOf tell s at n st ≡ record { at = at; frames = n; stop = stop.More; state = st }
-unfolding runFrom
+unfolding runOver recordsFrom
 run-end tell s at n st h = rw (drop-of-length-le s h)
 
-pub run-refused : (tell : Bool) (ys : List ℕ) (at n : ℕ) (st : State) → 0 < length ys → (takenOf st ys .refusal ≡ 0 → ⊥)
-    → runFrom tell ys 0 at n st ≡ record { at = at; frames = n; stop = stop.Refused (takenOf st ys .refusal) at; state = st }
-unfolding runFrom
-run-refused tell [] at n st h z = absurd (omega arith)
-run-refused tell (y ∷ ys) at n st h z = rw (ne-eqb _ _ z)
+module _ (ys : List ℕ) (at n : ℕ) (st : State) where
+  pub run-refused : (tell : Bool) → 0 < length ys → (takenOf st ys .refusal ≡ 0 → ⊥)
+      → runOver tell (recordsOf ys) at n st ≡ record { at = at; frames = n; stop = stop.Refused (takenOf st ys .refusal) at; state = st }
+  unfolding runOver
+  run-refused tell h z = rw (records-next ys h, ne-eqb _ _ z)
 
-pub run-closed : (tell : Bool) (ys : List ℕ) (at n : ℕ) (st : State) → 0 < length ys → takenOf st ys .refusal ≡ 0 → takenOf st ys .closed ≡ true
-    → runFrom tell ys 0 at n st ≡ record { at = at + sizeOf (recordOf ys); frames = n + framesIn (recordOf ys); stop = stop.Closed; state = takenOf st ys .state }
-unfolding runFrom
-run-closed tell [] at n st h e c = absurd (omega arith)
-run-closed tell (y ∷ ys) at n st h e c = rw (eq-eqb _ _ e, c)
+  module _ (e : takenOf st ys .refusal ≡ 0) where
+    pub run-closed : (tell : Bool) → takenOf st ys .closed ≡ true
+        → runOver tell (recordsOf ys) at n st ≡ record { at = at + sizeOf (recordOf ys); frames = n + framesIn (recordOf ys); stop = stop.Closed; state = takenOf st ys .state }
+    unfolding runOver
+    run-closed tell c = rw (records-next ys (some-bytes st ys e), eq-eqb _ _ e, c)
 
-pub run-told : (ys : List ℕ) (at n : ℕ) (st : State) → 0 < length ys → takenOf st ys .refusal ≡ 0 → takenOf st ys .closed ≡ false
-    → runFrom true ys 0 at n st ≡ record { at = at + sizeOf (recordOf ys); frames = n + framesIn (recordOf ys); stop = stop.Told; state = takenOf st ys .state }
-unfolding runFrom
-run-told [] at n st h e c = absurd (omega arith)
-run-told (y ∷ ys) at n st h e c = rw (eq-eqb _ _ e, c)
+    pub run-told : takenOf st ys .closed ≡ false
+        → runOver true (recordsOf ys) at n st ≡ record { at = at + sizeOf (recordOf ys); frames = n + framesIn (recordOf ys); stop = stop.Told; state = takenOf st ys .state }
+    unfolding runOver
+    run-told c = rw (records-next ys (some-bytes st ys e), eq-eqb _ _ e, c)
 
-on-by : (tell : Bool) (y : ℕ) (ys : List ℕ) (m at n : ℕ) (st : State) → 0 < m → m ≤ length (y ∷ ys) → runFrom tell ys (pred m) (at + 1) n st ≡ runFrom tell (drop m (y ∷ ys)) 0 (at + m) n st
-on-by tell y ys zero at n st h l = absurd (omega arith)
-on-by tell y ys (suc k) at n st h l = skipped tell ys k (at + 1) n st (omega arith) ∙ ap (λ (m : ℕ). runFrom tell (drop k ys) 0 m n st) (omega arith)
+    pub run-on : takenOf st ys .closed ≡ false
+        → runOver false (recordsOf ys) at n st ≡ runOver false (recordsOf (drop (sizeOf (recordOf ys)) ys)) (at + sizeOf (recordOf ys)) (n + framesIn (recordOf ys)) (takenOf st ys .state)
+    unfolding runOver
+    run-on c = rw (records-next ys (some-bytes st ys e), eq-eqb _ _ e, c)
 
-pub run-on : (ys : List ℕ) (at n : ℕ) (st : State) → takenOf st ys .refusal ≡ 0 → takenOf st ys .closed ≡ false
-    → runFrom false ys 0 at n st ≡ runFrom false (drop (sizeOf (recordOf ys)) ys) 0 (at + sizeOf (recordOf ys)) (n + framesIn (recordOf ys)) (takenOf st ys .state)
-unfolding runFrom
-run-on [] at n st e c = let z = sized st [] e in absurd (omega (arith, z .some, z .long))
-run-on (y ∷ ys) at n st e c =
-    let z = sized st (y ∷ ys) e in
-    rw (eq-eqb _ _ e, c) (on-by false y ys (sizeOf (recordOf (y ∷ ys))) at (n + framesIn (recordOf (y ∷ ys))) (takenOf st (y ∷ ys) .state) (omega (arith, z .some)) (z .long))
+pub some-left : (s : List ℕ) (at : ℕ) → at < length s → 0 < length (drop at s)
+some-left s at l = simp length-drop (omega arith)
 
 -- The same at a position of s, with the record r that stands there and what was taken of it, t: what the loop of `scan` cites.
 module _ (tell : Bool) (s : List ℕ) (at n : ℕ) (st : State) (r : Record) (er : r ≡ recordAt s at) (h : at < length s) where
-  some : 0 < length (drop at s)
-  some = simp length-drop (omega arith)
-
   pub within : Within s at r
   within = rw er (within-at s at (recordOf (drop at s)) h (whole-record (drop at s)))
 
@@ -113,7 +99,7 @@ module _ (tell : Bool) (s : List ℕ) (at n : ℕ) (st : State) (r : Record) (er
     taken-is = et ∙ ap (λ (q : Record). appliedOf st q (bodyOf q (drop at s))) er
 
     pub refused : (t .refusal ≡ 0 → ⊥) → runOf tell s at n st ≡ record { at = at; frames = n; stop = stop.Refused (t .refusal) at; state = st }
-    refused z = rw taken-is (run-refused tell (drop at s) at n st some (rw taken-is at z))
+    refused z = rw taken-is (run-refused (drop at s) at n st tell (some-left s at h) (rw taken-is at z))
 
     pub room : t .refusal ≡ 0 → (4 ≤ sizeOf r) × (at + sizeOf r ≤ length s) × (framesIn r ≤ 1)
     room e =
@@ -121,10 +107,10 @@ module _ (tell : Bool) (s : List ℕ) (at n : ℕ) (st : State) (r : Record) (er
         rw er (z .some, omega (arith, simp length-drop at (z .long)), z .one)
 
     pub closed : t .refusal ≡ 0 → t .closed ≡ true → runOf tell s at n st ≡ record { at = at + sizeOf r; frames = n + framesIn r; stop = stop.Closed; state = t .state }
-    closed e c = rw (taken-is, er) (run-closed tell (drop at s) at n st some (rw taken-is at e) (rw taken-is at c))
+    closed e c = rw (taken-is, er) (run-closed (drop at s) at n st (rw taken-is at e) tell (rw taken-is at c))
 
     pub told : t .refusal ≡ 0 → t .closed ≡ false → tell ≡ true → runOf tell s at n st ≡ record { at = at + sizeOf r; frames = n + framesIn r; stop = stop.Told; state = t .state }
-    told e c l = rw (l, taken-is, er) (run-told (drop at s) at n st some (rw taken-is at e) (rw taken-is at c))
+    told e c l = rw (l, taken-is, er) (run-told (drop at s) at n st (rw taken-is at e) (rw taken-is at c))
 
     pub on : t .refusal ≡ 0 → t .closed ≡ false → tell ≡ false → runOf tell s at n st ≡ runOf tell s (at + sizeOf r) (n + framesIn r) (t .state)
     on e c l =
@@ -132,7 +118,7 @@ module _ (tell : Bool) (s : List ℕ) (at n : ℕ) (st : State) (r : Record) (er
         (run-on (drop at s) at n st (rw taken-is at e) (rw taken-is at c))
 
   -- a refusal of the record itself
-  pub refused-itself : (m : ℕ) → r ≡ Refused m → runOf tell s at n st ≡ record { at = at; frames = n; stop = stop.Refused m at; state = st }
-  refused-itself m e =
+  pub refused-itself : (m : ℕ) → r ≡ Refused m → (k : ℕ) → k ≡ refusalIn r → runOf tell s at n st ≡ record { at = at; frames = n; stop = stop.Refused k at; state = st }
+  refused-itself m e k ek =
       let l = refused-some (drop at s) (recordOf (drop at s)) m (whole-record (drop at s)) (sym er ∙ e) in
-      refused (refusedOf st m) (sym (applied-refused st (bodyOf r (drop at s)) r m e)) (λ z. omega (arith, l, z))
+      rw (ek ∙ ap refusalIn e) (refused (refusedOf st m) (sym (applied-refused st (bodyOf r (drop at s)) r m e)) (λ z. omega (arith, l, z)))

@@ -1,5 +1,5 @@
 -- A record taken, and the scan of a buffer's records (document 01, "Trace records and the listing"). Assumes nothing.
-use Prim.Native.Nat.{ℕ, zero, suc, pred, _+_}
+use Prim.Native.Nat.{ℕ, _+_}
 use mathlib.Core.Bool.{Bool, true, false, cond}
 use mathlib.Core.List.{List, [], _∷_}
 use lib.ListN.{getD, drop, take, replicate}
@@ -14,7 +14,7 @@ use Rattle.trace.specs.declared.State.{State}
 use Rattle.trace.specs.declared.Taken.{Taken}
 use Rattle.trace.specs.declared.Run.{Run}
 use Rattle.trace.specs.declared.Stop.the-variants as stop
-use Rattle.record.specs.Record.{recordOf, sizeOf, bodyOf, framesIn, sectionIn, pathIn}
+use Rattle.record.specs.Record.{recordOf, recordsOf, sizeOf, bodyOf, framesIn, sectionIn, pathIn}
 
 -- what a scan starts with: no provisioning met, no second closed, and nothing stands
 abbrev pub startOf : State
@@ -63,22 +63,21 @@ appliedOf st (Refused n) body = refusedOf st n
 unfoldable pub takenOf : State → List ℕ → Taken
 takenOf st ys = appliedOf st (recordOf ys) (bodyOf (recordOf ys) ys)
 
--- The run over a list of bytes, from the place `at` on, n frames before it: skip the rest of the present record, then take the next. It
--- ends at the first record refused, at one that closes a second, at each that is told, and at the end.
-unfoldable pub runFrom : Bool → List ℕ → ℕ → ℕ → ℕ → State → Run
-runFrom tell [] skip at n st = record { at = at; frames = n; stop = stop.More; state = st }
-runFrom tell (y ∷ ys) (suc k) at n st = runFrom tell ys k (at + 1) n st
-runFrom tell (y ∷ ys) zero at n st =
-    let r : Record = recordOf (y ∷ ys) in
-    let t : Taken = takenOf st (y ∷ ys) in
+-- The run over records, from the place `at` on, n frames before it. It ends at the first record refused, at one that closes a second, at each
+-- that is told, and at the end.
+unfoldable pub runOver : Bool → List (List ℕ) → ℕ → ℕ → State → Run
+runOver tell [] at n st = record { at = at; frames = n; stop = stop.More; state = st }
+runOver tell (ys ∷ rs) at n st =
+    let r : Record = recordOf ys in
+    let t : Taken = takenOf st ys in
     cond (eqb (t .refusal) 0)
     (cond (t .closed)
     (record { at = at + sizeOf r; frames = n + framesIn r; stop = stop.Closed; state = t .state })
     (cond tell
     (record { at = at + sizeOf r; frames = n + framesIn r; stop = stop.Told; state = t .state })
-    (runFrom tell ys (pred (sizeOf r)) (at + 1) (n + framesIn r) (t .state))))
+    (runOver tell rs (at + sizeOf r) (n + framesIn r) (t .state))))
     (record { at = at; frames = n; stop = stop.Refused (t .refusal) at; state = st })
 
 -- the run over a list from a position on
 abbrev pub runOf : Bool → List ℕ → ℕ → ℕ → State → Run
-runOf tell s at n st = runFrom tell (drop at s) 0 at n st
+runOf tell s at n st = runOver tell (recordsOf (drop at s)) at n st

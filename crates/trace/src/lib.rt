@@ -176,29 +176,26 @@ pub fn scan(tell: bool, st: State, s: &[u8], from: usize) -> Run
             break Stop::More;
         }
         let rec = record::record_at(s, at);
-        let Record::Refused(no) = rec else {
-            let t = applied(state, rec, s, at);
-            if t.refusal != 0 {
-                break Stop::Refused {
-                    number: t.refusal,
-                    offset: at,
-                };
-            }
-            state = t.state;
-            frames += record::frames_in(rec);
-            at += record::length_of(rec) + 2;
-            if t.closed {
-                break Stop::Closed;
-            }
-            if tell {
-                break Stop::Told;
-            }
-            continue;
+        let (Record::Frame | Record::Mark | Record::Provisioning) = rec else {
+            let number = record::refusal_in(rec);
+            break Stop::Refused { number, offset: at };
         };
-        break Stop::Refused {
-            number: no,
-            offset: at,
-        };
+        let t = applied(state, rec, s, at);
+        if t.refusal != 0 {
+            break Stop::Refused {
+                number: t.refusal,
+                offset: at,
+            };
+        }
+        state = t.state;
+        frames += record::frames_in(rec);
+        at += record::length_of(rec) + 2;
+        if t.closed {
+            break Stop::Closed;
+        }
+        if tell {
+            break Stop::Told;
+        }
     };
     Run {
         at,

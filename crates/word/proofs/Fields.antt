@@ -1,18 +1,17 @@
 -- Each field of a report is read back from its place. Assumes nothing.
-use mathlib.Core.Path.{_≡_, sym, ap, _∙_}
+use mathlib.Core.Path.{_≡_, refl, sym, ap, _∙_}
 use mathlib.Core.Bool.{Bool, true, false}
-use mathlib.Core.List.{List, [], _∷_, _++_}
-use Prim.Native.Nat.{ℕ, zero, suc, _+_, _/_, _%_, _^_, _≤_, _<_}
-use native.Mathlib.Nat.{not-suc-le-zero, le-of-suc-le-suc, mod-eq-of-lt, div-eq-of-lt, div-div-eq-div-mul, add-mul-div-left, add-mul-mod-self-left, div-one, zero-add}
+use mathlib.Core.List.{List, [], _∷_, _++_, map}
+use Prim.Native.Nat.{ℕ, zero, suc, _+_, _/_, _%_, _^_, _<_}
+use native.Mathlib.Nat.{mod-eq-of-lt, div-eq-of-lt, div-div-eq-div-mul, add-mul-div-left, add-mul-mod-self-left, div-one, zero-add}
 use native.Mathlib.Omega.{arith}
-use lib.ListN.{length}
+use lib.ListN.{getD, drop}
 use lib.Pow.{pow-pos, pow-add}
 use Rattle.causes.specs.Causes.{reportOf, headOf}
 use Rattle.signal.specs.Signal.{isAis, isOci, isLck}
 use Rattle.causes.specs.declared.Line.{Line}
 use Rattle.causes.specs.declared.SectionStands.{SectionStands}
 use Rattle.causes.specs.declared.PathStands.{PathStands}
-use Rattle.causes.specs.declared.Standing.{Standing}
 use Rattle.causes.specs.declared.SectionActions.{SectionActions}
 use Rattle.causes.specs.declared.PathActions.{PathActions}
 use Rattle.causes.specs.declared.LineCauses.{LineCauses}
@@ -21,7 +20,13 @@ use Rattle.causes.specs.declared.PathCauses.{PathCauses}
 use Rattle.causes.specs.declared.Report.{Report}
 use Rattle.causes.proofs.OneCause.{one-cause}
 use Rattle.answer.specs.Bits.{flag}
-use Rattle.word.specs.Report.{Field, packed, Fits, begins, fieldAt, bitsOf, lineFields, sectionFields, pathFields, sectionActed, pathActed, lineCaused, sectionCaused, pathCaused, reportFields, reportWord}
+use Rattle.word.specs.Table.{Bits, reportTable, bitsOf, RowsRead, sideBySide, EveryReportBack}
+use Rattle.word.specs.Report.{Field, number, packed, lineFields, sectionFields, pathFields, sectionActed, pathActed, lineCaused, sectionCaused, pathCaused, reportFields, reportWord}
+
+-- each number fits its bits
+abbrev Fits : List Field → Type 0
+Fits [] = Unit {0}
+Fits (f ∷ fs) = (f .value < 2 ^ f .width) × Fits fs
 
 -- what lies behind the first field
 behind : (f : Field) (fs : List Field) → f .value < 2 ^ f .width → packed (f ∷ fs) / 2 ^ f .width ≡ packed fs
@@ -30,16 +35,27 @@ behind f fs h =
     ∙ ap (λ (n : ℕ). n + packed fs) (div-eq-of-lt h)
     ∙ zero-add (packed fs)
 
-pub field-back : (i : ℕ) (fs : List Field) → Fits fs → i < length fs → bitsOf (packed fs) (begins i fs) (fieldAt i fs .width) ≡ fieldAt i fs .value
-field-back i [] z h = absurd (not-suc-le-zero h)
-field-back zero (f ∷ fs) z h =
-    ap (λ (n : ℕ). n % 2 ^ f .width) (div-one (packed (f ∷ fs))) ∙ add-mul-mod-self-left (f .value) (2 ^ f .width) (packed fs) ∙ mod-eq-of-lt (z .0)
-field-back (suc i) (f ∷ fs) z h =
-    let e : packed (f ∷ fs) / 2 ^ (f .width + begins i fs) ≡ packed fs / 2 ^ begins i fs
-    = ap (λ (n : ℕ). packed (f ∷ fs) / n) (pow-add 2 (f .width) (begins i fs))
-    ∙ sym (div-div-eq-div-mul (packed (f ∷ fs)) (2 ^ f .width) (2 ^ begins i fs))
-    ∙ ap (λ (n : ℕ). n / 2 ^ begins i fs) (behind f fs (z .0)) in
-    ap (λ (n : ℕ). n % 2 ^ (fieldAt i fs .width)) e ∙ field-back i fs (z .1) (le-of-suc-le-suc h)
+-- a row as a field of the report's word
+abbrev fieldBy : Report → Bits → Field
+fieldBy r b = number (b .width) (b .value r)
+
+-- rows that lie side by side read their values in a word whose bits from there on are their fields
+rows-read : (word at : ℕ) (r : Report) (bs : List Bits) → map (λ (b : Bits). b .from) bs ≡ sideBySide at bs → Fits (map (fieldBy r) bs)
+    → word / 2 ^ at ≡ packed (map (fieldBy r) bs) → RowsRead word r bs
+rows-read word at r [] e z h = tt
+rows-read word at r (b ∷ bs) e z h =
+    let f : Field = fieldBy r b in
+    let fs : List Field = map (fieldBy r) bs in
+    let here : b .from ≡ at = ap (λ (l : List ℕ). getD l 0 0) e in
+    let first : word / 2 ^ b .from ≡ packed (f ∷ fs) = rw here h in
+    let rest : word / 2 ^ (at + b .width) ≡ packed fs
+    = ap (λ (n : ℕ). word / n) (pow-add 2 at (b .width))
+    ∙ sym (div-div-eq-div-mul word (2 ^ at) (2 ^ b .width))
+    ∙ ap (λ (n : ℕ). n / 2 ^ b .width) h
+    ∙ behind f fs (z .0) in (
+      ap (λ (n : ℕ). n % 2 ^ b .width) first ∙ add-mul-mod-self-left (f .value) (2 ^ f .width) (packed fs) ∙ mod-eq-of-lt (z .0),
+      rows-read word (at + b .width) r bs (ap (drop 1) e) (z .1) rest,
+    )
 
 one-fits : (b : Bool) → flag b < 2 ^ 1
 one-fits true = omega arith
@@ -74,7 +90,7 @@ path-causes-fit : (c : PathCauses) → Fits (pathCaused c)
 path-causes-fit c = (one-fits (c .oci), (one-fits (c .lck), (one-fits (c .tim), (one-fits (c .deg), (one-fits (c .bdi), (one-fits (c .ssf), tt))))))
 
 -- a report fits whose head and counts fit
-pub report-fits : (r : Report) → r .head < 16 → r .section .bei < 16 → r .path .bei < 16 → Fits (reportFields r)
+report-fits : (r : Report) → r .head < 16 → r .section .bei < 16 → r .path .bei < 16 → Fits (reportFields r)
 report-fits r h s p =
     let zero-fits : 0 < 256 = omega arith in
     let c3 : List Field = pathCaused (r .causes .path) in
@@ -92,13 +108,22 @@ report-fits r h s p =
     let h1 = fits-append (sectionFields (r .section .ssf) (r .standing .section)) d2 (section-fits (r .section .ssf) (r .standing .section)) h2 in
     (zero-fits, (h, fits-append (lineFields (r .standing .line)) d1 (line-fits (r .standing .line)) h1))
 
--- The report of an accepted frame: its head is at most 9 and its counts, by refusal 3, at most 8; so each of its forty fields is read
--- back from its place.
-pub report-back : (d : Standing) (sm pm i : ℕ) → sm ≤ 8 → pm ≤ 8 → i < 40
-    → bitsOf (reportWord (reportOf d sm pm)) (begins i (reportFields (reportOf d sm pm))) (fieldAt i (reportFields (reportOf d sm pm)) .width)
-    ≡ fieldAt i (reportFields (reportOf d sm pm)) .value
+-- The report of an accepted frame: its head is at most 9 and its counts, by refusal 3, at most 8; so each row is read back.
+pub report-back : EveryReportBack
 unfolding reportWord reportOf
-report-back d sm pm i hs hp h =
+report-back d sm pm hs hp =
     let u : headOf d < 10 = one-cause d .head in
-    let fits : Fits (reportFields (reportOf d sm pm)) = report-fits (reportOf d sm pm) (omega arith) (omega arith) (omega arith) in
-    field-back i (reportFields (reportOf d sm pm)) fits h
+    let r : Report = reportOf d sm pm in
+    let fits : Fits (reportFields r) = report-fits r (omega arith) (omega arith) (omega arith) in
+    record { reads = rows-read (reportWord r) 0 r reportTable refl fits (div-one (reportWord r)); beside = refl }
+
+-- what the i-th row reads, and that it does
+abbrev pub RowRead : ℕ → ℕ → Report → List Bits → Type 0
+RowRead i word r [] = Unit {0}
+RowRead zero word r (b ∷ bs) = bitsOf word (b .from) (b .width) ≡ b .value r
+RowRead (suc i) word r (b ∷ bs) = RowRead i word r bs
+
+pub row-read : (i word : ℕ) (r : Report) (bs : List Bits) → RowsRead word r bs → RowRead i word r bs
+row-read i word r [] a = tt
+row-read zero word r (b ∷ bs) a = a .0
+row-read (suc i) word r (b ∷ bs) a = row-read i word r bs (a .1)

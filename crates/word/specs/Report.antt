@@ -1,7 +1,7 @@
 -- The report of a frame as one number: its fields side by side, the first lowest. Assumes nothing.
 use mathlib.Core.Bool.{Bool}
 use mathlib.Core.List.{List, [], _∷_, _++_}
-use Prim.Native.Nat.{ℕ, zero, suc, _+_, _*_, _/_, _%_, _^_, _<_}
+use Prim.Native.Nat.{ℕ, _+_, _*_, _^_}
 use Rattle.signal.specs.Signal.{isAis, isOci, isLck}
 use Rattle.causes.specs.declared.Line.{Line}
 use Rattle.causes.specs.declared.SectionStands.{SectionStands}
@@ -76,24 +76,3 @@ reportFields r =
 
 unfoldable pub reportWord : Report → ℕ
 reportWord r = packed (reportFields r)
-
--- each number fits its bits
-abbrev pub Fits : List Field → Type 0
-Fits [] = Unit {0}
-Fits (f ∷ fs) = (f .value < 2 ^ f .width) × Fits fs
-
--- the bit at which the i-th field begins
-abbrev pub begins : ℕ → List Field → ℕ
-begins zero fs = 0
-begins (suc i) [] = 0
-begins (suc i) (f ∷ fs) = f .width + begins i fs
-
--- the i-th field
-abbrev pub fieldAt : ℕ → List Field → Field
-fieldAt i [] = number 0 0
-fieldAt zero (f ∷ fs) = f
-fieldAt (suc i) (f ∷ fs) = fieldAt i fs
-
--- the number of the bits from a place on, as C reads them: `word >> from & (2^width - 1)`
-abbrev pub bitsOf : ℕ → ℕ → ℕ → ℕ
-bitsOf word from width = word / 2 ^ from % 2 ^ width

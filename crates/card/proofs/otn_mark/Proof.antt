@@ -13,8 +13,8 @@ is-sound-requires c κs = search needs
 strip-in-requires : tie.Need-strip-in-requires
 strip-in-requires c κs = search needs
 
-head-of-requires : tie.Need-head-of-requires
-head-of-requires c κs = search needs
+head-in-requires : tie.Need-head-in-requires
+head-in-requires c κs = search needs
 
 add-number : tie.Need-add-number
 add-number c = search needs
@@ -24,7 +24,7 @@ mark-in-requires c κs =
     let sup = now (c .before .before .before .before .before .before .before .before .before .before .before .before .args .sup) in
     let t = sym (c .before .before .before .before .before .before .before .before .is-sound .ensures) ∙ c .before .before .before .before .before .before .before .if1 .taken in
     let w = c .before .before .before .before .before .strip-in .ensures in
-    let h = c .before .before .before .before .head-of .ensures in
+    let h = c .before .before .before .before .head-in .ensures in
     (sound-long sup t, (t, (k-is sup sup _ _ t w h, ap (λ (x : ℕ). x + 1) (seconds-is sup sup _ _ t w h))))
 
 record-of-requires : tie.Need-record-of-requires
@@ -47,7 +47,7 @@ returns c =
     let a = c .before .before .before .before .before .before .before .before .before .before .before .before .before .before .before .before .before .before .before .before .before .args in
     let t = sym (c .before .before .before .before .before .before .before .before .before .before .before .before .before .before .before .before .before .is-sound .ensures) ∙ c .before .before .before .before .before .before .before .before .before .before .before .before .before .before .before .before .if1 .taken in
     let e = c .before .before .before .before .before .before .before .before .mark-in .ensures in
-    mark-done (now (a .sup)) (now (a .out)) _ _ t (c .before .before .before .before .before .before .before .before .before .before .before .before .before .before .strip-in .ensures) (c .before .before .before .before .before .before .before .before .before .before .before .before .before .head-of .ensures) _ _ _ _ (c .before .before .before .before .before .before .before .before .before .before .before .if2 .taken) (e .0) (e .1) (c .before .before .before .before .before .record-of .ensures) (c .before .before .pour .ensures)
+    mark-done (now (a .sup)) (now (a .out)) _ _ t (c .before .before .before .before .before .before .before .before .before .before .before .before .before .before .strip-in .ensures) (c .before .before .before .before .before .before .before .before .before .before .before .before .before .head-in .ensures) _ _ _ _ (c .before .before .before .before .before .before .before .before .before .before .before .if2 .taken) (e .0) (e .1) (c .before .before .before .before .before .record-of .ensures) (c .before .before .pour .ensures)
 
 same-length-3 : tie.Need-same-length-3
 same-length-3 c = search needs
@@ -56,7 +56,7 @@ returns-2 : tie.Need-returns-2
 returns-2 c =
     let a = c .before .before .before .before .before .before .before .before .before .before .args in
     let t = sym (c .before .before .before .before .before .before .is-sound .ensures) ∙ c .before .before .before .before .before .if1 .taken in
-    mark-refused (now (a .sup)) (now (a .out)) _ _ t (c .before .before .before .strip-in .ensures) (c .before .before .head-of .ensures) (c .if2 .left)
+    mark-refused (now (a .sup)) (now (a .out)) _ _ t (c .before .before .before .strip-in .ensures) (c .before .before .head-in .ensures) (c .if2 .left)
 
 same-length-4 : tie.Need-same-length-4
 same-length-4 c = search needs
@@ -72,7 +72,7 @@ otn-mark-spec =
     (tie.spec
     is-sound-requires
     strip-in-requires
-    head-of-requires
+    head-in-requires
     add-number
     mark-in-requires
     record-of-requires

@@ -17,8 +17,8 @@ add-strip-in c = search needs
 strip-in-requires : tie.Need-strip-in-requires
 strip-in-requires c κs = search needs
 
-state-of-requires : tie.Need-state-of-requires
-state-of-requires c κs = search needs
+state-in-requires : tie.Need-state-in-requires
+state-in-requires c κs = search needs
 
 checked-requires : tie.Need-checked-requires
 checked-requires c κs = search needs
@@ -48,7 +48,7 @@ returns : tie.Need-returns
 returns c =
     let a = c .before .before .before .before .before .before .before .before .before .before .before .before .before .before .before .before .before .args in
     let t = sym (c .before .before .before .before .before .before .before .before .before .before .before .before .before .before .is-sound .ensures) ∙ c .before .before .before .before .before .before .before .before .before .before .before .before .before .if1 .taken in
-    trace-done (now (a .sup)) (a .layer) (now (a .out)) t _ _ _ _ _ _ (c .before .before .before .before .before .before .before .before .before .before .before .before .record-at .ensures .0) (c .before .before .before .before .before .before .before .before .before .before .before .strip-in .ensures) (c .before .before .before .before .before .before .before .before .before .before .state-of .ensures) (c .before .before .before .before .before .before .before .before .before .checked .ensures) (c .before .before .before .before .before .before .before .before .checked2 .ensures) (c .before .before .before .before .before .before .before .checked3 .ensures) _ _ (c .before .before .before .before .before .before .if2 .taken) (c .before .before .before .before .before .band-in .ensures) (c .before .before .pour .ensures)
+    trace-done (now (a .sup)) (a .layer) (now (a .out)) t _ _ _ _ _ _ (c .before .before .before .before .before .before .before .before .before .before .before .before .record-at .ensures .0) (c .before .before .before .before .before .before .before .before .before .before .before .strip-in .ensures) (c .before .before .before .before .before .before .before .before .before .before .state-in .ensures) (c .before .before .before .before .before .before .before .before .before .checked .ensures) (c .before .before .before .before .before .before .before .before .checked2 .ensures) (c .before .before .before .before .before .before .before .checked3 .ensures) _ _ (c .before .before .before .before .before .before .if2 .taken) (c .before .before .before .before .before .band-in .ensures) (c .before .before .pour .ensures)
 
 wide-requires : tie.Need-wide-requires
 wide-requires c κs = search needs
@@ -57,7 +57,7 @@ returns-2 : tie.Need-returns-2
 returns-2 c =
     let a = c .before .before .before .before .before .before .before .before .before .before .before .before .args in
     let t = sym (c .before .before .before .before .before .before .before .before .before .is-sound .ensures) ∙ c .before .before .before .before .before .before .before .before .if1 .taken in
-    trace-refused (now (a .sup)) (a .layer) (now (a .out)) t _ _ _ _ _ _ (c .before .before .before .before .before .before .before .record-at .ensures .0) (c .before .before .before .before .before .before .strip-in .ensures) (c .before .before .before .before .before .state-of .ensures) (c .before .before .before .before .checked .ensures) (c .before .before .before .checked2 .ensures) (c .before .before .checked3 .ensures) _ (c .before .if2 .left) (c .wide .ensures)
+    trace-refused (now (a .sup)) (a .layer) (now (a .out)) t _ _ _ _ _ _ (c .before .before .before .before .before .before .before .record-at .ensures .0) (c .before .before .before .before .before .before .strip-in .ensures) (c .before .before .before .before .before .state-in .ensures) (c .before .before .before .before .checked .ensures) (c .before .before .before .checked2 .ensures) (c .before .before .checked3 .ensures) _ (c .before .if2 .left) (c .wide .ensures)
 
 returns-3 : tie.Need-returns-3
 returns-3 c =
@@ -72,7 +72,7 @@ otn-trace-spec =
     record-at-requires
     add-strip-in
     strip-in-requires
-    state-of-requires
+    state-in-requires
     checked-requires
     checked-requires-2
     checked-requires-3

@@ -1,6 +1,6 @@
 use Rattle.listing.proofs.Overs.{fits-not}
 use Rattle.listing.proofs.Wrotes.{wrote-fits}
-use Rattle.listing.specs.Text.{lineOf}
+use Rattle.listing.specs.Text.{textLine}
 use mathlib.Core.List.{[], _∷_}
 use denote.Ref.{now}
 use native.Mathlib.Omega.{arith}
@@ -26,7 +26,7 @@ returns c = wrote-fits 44 (omega (arith, c .before .before .before .before .befo
 returns-2 : tie.Need-returns-2
 returns-2 c =
     let a = c .before .before .before .args in
-    fits-not (now (a .out)) (a .at) 44 (lineOf (a .letter) (a .a ∷ a .b ∷ [])) (omega (arith, c .if1 .left, c .before .room .ensures))
+    fits-not (now (a .out)) (a .at) 44 (textLine (a .letter) (a .a ∷ a .b ∷ [])) (omega (arith, c .if1 .left, c .before .room .ensures))
 
 pub pair-line-spec : {M : Type 1} → statement M
 pair-line-spec =

@@ -1,5 +1,5 @@
 use Rattle.listing.proofs.Wrotes.{wrote-then, wrote-number}
-use Rattle.listing.specs.Text.{fieldOf}
+use Rattle.listing.specs.Text.{spaced}
 use native.Mathlib.Omega.{arith}
 use borrow.Author.Needs.{needs}
 use Rattle.listing.proofs.put_field.Statement.{statement}
@@ -15,7 +15,7 @@ same-length : tie.Need-same-length
 same-length c = search needs
 
 returns : tie.Need-returns
-unfolding fieldOf
+unfolding spaced
 returns c =
     let s = c .before .before .before .before .before .before .before .before .before in
     let p = c .before .before .before .before .before .before .put-byte in

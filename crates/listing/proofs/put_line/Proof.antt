@@ -1,5 +1,5 @@
 use Rattle.listing.proofs.Wrotes.{wrote-then, wrote-more}
-use Rattle.listing.specs.Text.{lineOf}
+use Rattle.listing.specs.Text.{textLine}
 use lib.ListN.{length}
 use denote.Ref.{now}
 use Prim.Native.Nat.{_+_, _*_}
@@ -21,7 +21,7 @@ same-length : tie.Need-same-length
 same-length c = search needs
 
 returns : tie.Need-returns
-unfolding lineOf
+unfolding textLine
 returns c =
     wrote-more (2 + 21 * length (now (c .before .before .before .before .before .before .before .before .before .before .before .before .before .before .args .ns))) (omega arith)
     (wrote-then (wrote-then (c .before .before .before .before .before .before .before .before .before .before .put-byte .ensures) (c .before .before .before .before .before .before .put-fields .ensures)) (c .before .before .put-byte2 .ensures))

@@ -1,6 +1,6 @@
 use Rattle.listing.proofs.Overs.{fits-not}
 use Rattle.listing.proofs.Wrotes.{wrote-fits}
-use Rattle.listing.specs.Text.{lineOf}
+use Rattle.listing.specs.Text.{textLine}
 use denote.Ref.{now}
 use native.Mathlib.Omega.{arith}
 use borrow.Author.Needs.{needs}
@@ -30,7 +30,7 @@ returns c =
 returns-2 : tie.Need-returns-2
 returns-2 c =
     let a = c .before .before .before .args in
-    fits-not (now (a .out)) (a .at) 422 (lineOf 83 (a .figures)) (omega (arith, c .if1 .left, c .before .room .ensures))
+    fits-not (now (a .out)) (a .at) 422 (textLine 83 (a .figures)) (omega (arith, c .if1 .left, c .before .room .ensures))
 
 pub second-line-spec : {M : Type 1} → statement M
 second-line-spec =

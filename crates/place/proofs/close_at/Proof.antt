@@ -9,11 +9,11 @@ strip-in-requires c κs = search needs
 strip-in-requires-2 : tie.Need-strip-in-requires-2
 strip-in-requires-2 c κs = search needs
 
-front-of-requires : tie.Need-front-of-requires
-front-of-requires c κs = search needs
+front-in-requires : tie.Need-front-in-requires
+front-in-requires c κs = search needs
 
-state-of-requires : tie.Need-state-of-requires
-state-of-requires c κs = search needs
+state-in-requires : tie.Need-state-in-requires
+state-in-requires c κs = search needs
 
 discard-requires : tie.Need-discard-requires
 discard-requires c κs = search needs
@@ -38,7 +38,7 @@ same-length c = search needs
 
 returns : tie.Need-returns
 returns c =
-    close-is _ _ _ _ _ _ _ _ _ _ _ (c .before .before .before .before .before .before .before .before .before .before .before .before .before .before .before .before .before .before .before .before .strip-in .ensures) (c .before .before .before .before .before .before .before .before .before .before .before .before .before .before .before .before .before .before .strip-in2 .ensures) (c .before .before .before .before .before .before .before .before .before .before .before .before .before .before .before .before .before .front-of .ensures) (c .before .before .before .before .before .before .before .before .before .before .before .before .before .before .before .before .state-of .ensures) (c .before .before .before .before .before .before .before .before .before .before .before .before .before .before .discard .ensures) (c .before .before .before .before .before .before .before .before .before .before .filter-step .ensures) (c .before .before .before .before .before .before .before .before .before .front-bytes .ensures) (c .before .before .before .before .before .before .before .before .state-bytes .ensures) (c .before .before .before .before .before .before .lay-strip .ensures) (c .before .before .lay-strip2 .ensures)
+    close-is _ _ _ _ _ _ _ _ _ _ _ (c .before .before .before .before .before .before .before .before .before .before .before .before .before .before .before .before .before .before .before .before .strip-in .ensures) (c .before .before .before .before .before .before .before .before .before .before .before .before .before .before .before .before .before .before .strip-in2 .ensures) (c .before .before .before .before .before .before .before .before .before .before .before .before .before .before .before .before .before .front-in .ensures) (c .before .before .before .before .before .before .before .before .before .before .before .before .before .before .before .before .state-in .ensures) (c .before .before .before .before .before .before .before .before .before .before .before .before .before .before .discard .ensures) (c .before .before .before .before .before .before .before .before .before .before .filter-step .ensures) (c .before .before .before .before .before .before .before .before .before .front-bytes .ensures) (c .before .before .before .before .before .before .before .before .state-bytes .ensures) (c .before .before .before .before .before .before .lay-strip .ensures) (c .before .before .lay-strip2 .ensures)
 
 pub close-at-spec : {M : Type 1} → statement M
 close-at-spec =
@@ -46,8 +46,8 @@ close-at-spec =
     (tie.spec
     strip-in-requires
     strip-in-requires-2
-    front-of-requires
-    state-of-requires
+    front-in-requires
+    state-in-requires
     discard-requires
     filter-step-requires
     front-bytes-requires

@@ -10,11 +10,11 @@ strip-in-requires c κs = search needs
 strip-in-requires-2 : tie.Need-strip-in-requires-2
 strip-in-requires-2 c κs = search needs
 
-head-of-requires : tie.Need-head-of-requires
-head-of-requires c κs = search needs
+head-in-requires : tie.Need-head-in-requires
+head-in-requires c κs = search needs
 
-align-of-requires : tie.Need-align-of-requires
-align-of-requires c κs = search needs
+align-in-requires : tie.Need-align-in-requires
+align-in-requires c κs = search needs
 
 frames-of-requires : tie.Need-frames-of-requires
 frames-of-requires c κs = search needs
@@ -38,8 +38,8 @@ returns : tie.Need-returns
 returns c =
     let w = c .before .before .before .before .before .before .before .before .before .before .before .before .before .strip-in .ensures in
     let v = c .before .before .before .before .before .before .before .before .before .before .before .strip-in2 .ensures in
-    let h = c .before .before .before .before .before .before .before .before .before .before .head-of .ensures in
-    let a = c .before .before .before .before .before .before .before .before .before .align-of .ensures in
+    let h = c .before .before .before .before .before .before .before .before .before .before .head-in .ensures in
+    let a = c .before .before .before .before .before .before .before .before .before .align-in .ensures in
     let n = rw (h, w) at (c .before .before .before .before .before .before .before .before .frames-of .ensures) in
     let s = rw (a, v, n) at (c .before .before .before .before .before .before .before .align-step .ensures) in
     record {
@@ -54,8 +54,8 @@ line-at-spec =
     (tie.spec
     strip-in-requires
     strip-in-requires-2
-    head-of-requires
-    align-of-requires
+    head-in-requires
+    align-in-requires
     frames-of-requires
     align-step-requires
     align-bytes-requires

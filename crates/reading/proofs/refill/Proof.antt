@@ -73,7 +73,7 @@ returns c =
     let f = c .before .before .before .before .before .before .before .before .before .before .before .before .before .before .before .before .before .fill in
     let t = c .before .before .before .before .before .before .before .before .before .before .before .turn in
     let z : a .from .held + f .result - 0 ≡ a .from .held + f .result = omega arith in
-    refilled (a .from .reading) (a .from .held) (f .result) (c .before .before .before .before .before .before .before .before .before .before .before .before .before .before .before .before .before .before .before .before .before .before .pre .0) (now (a .buf)) (f .last .0) (c .before .before .before .before .shift .last .0) (take (a .from .held + f .result - 0) (f .last .0)) (t .result) (not (c .before .before .before .before .before .before .write-all .result)) (f .ensures .0) (f .ensures .1) (ap (λ (n : ℕ). take n (f .last .0)) z) (t .ensures .0) (c .before .before .before .before .shift .ensures)
+    refilled (a .from .reading) (a .from .held) (f .result) (c .before .before .before .before .before .before .before .before .before .before .before .before .before .before .before .before .before .before .before .before .before .before .pre .0) (now (a .buf)) (f .last .0) (c .before .before .before .before .shift .last .0) (take (a .from .held + f .result - 0) (f .last .0)) (t .result) (not (c .before .before .before .before .before .before .write-all .result)) (f .ensures .0) (f .ensures .1) (ap (λ (n : ℕ). take n (f .last .0)) z) (t .ensures .0) (now (a .out)) (t .last .1 .1 .1 .0) (t .ensures .1) (c .before .before .before .before .shift .ensures)
 
 pub refill-spec : {M : Type 1} → statement M
 refill-spec =

@@ -32,20 +32,20 @@ array-read-t32 c = search needs
 array-read-t35 : tie.Need-array-read-t35
 array-read-t35 c = search needs
 
-bit-requires : tie.Need-bit-requires
-bit-requires c κs = search needs
+flag-of-requires : tie.Need-flag-of-requires
+flag-of-requires c κs = search needs
 
-bit-requires-2 : tie.Need-bit-requires-2
-bit-requires-2 c κs = search needs
+flag-of-requires-2 : tie.Need-flag-of-requires-2
+flag-of-requires-2 c κs = search needs
 
-bit-requires-3 : tie.Need-bit-requires-3
-bit-requires-3 c κs = search needs
+flag-of-requires-3 : tie.Need-flag-of-requires-3
+flag-of-requires-3 c κs = search needs
 
-bit-requires-4 : tie.Need-bit-requires-4
-bit-requires-4 c κs = search needs
+flag-of-requires-4 : tie.Need-flag-of-requires-4
+flag-of-requires-4 c κs = search needs
 
 returns : tie.Need-returns
-returns c = simp (c .before .before .before .bit .ensures, c .before .before .bit2 .ensures, c .before .bit3 .ensures, c .bit4 .ensures)
+returns c = simp (c .before .before .before .flag-of .ensures, c .before .before .flag-of2 .ensures, c .before .flag-of3 .ensures, c .flag-of4 .ensures)
 
 pub figures-spec : {M : Type 1} → statement M
 figures-spec =
@@ -61,8 +61,8 @@ figures-spec =
     array-read-t29
     array-read-t32
     array-read-t35
-    bit-requires
-    bit-requires-2
-    bit-requires-3
-    bit-requires-4
+    flag-of-requires
+    flag-of-requires-2
+    flag-of-requires-3
+    flag-of-requires-4
     returns)

@@ -21,8 +21,11 @@ loop-holds c = (refl, omega arith)
 record-at-requires : tie.Need-record-at-requires Inv-loop μ-loop
 record-at-requires c κs = search needs
 
-enum-known-rec : tie.Need-enum-known-rec Inv-loop μ-loop
-enum-known-rec c = search needs
+enum-told : tie.Need-enum-told Inv-loop μ-loop
+enum-told c = search needs
+
+refusal-in-requires : tie.Need-refusal-in-requires Inv-loop μ-loop
+refusal-in-requires c κs = search needs
 
 applied-requires : tie.Need-applied-requires Inv-loop μ-loop
 applied-requires c κs =
@@ -83,31 +86,31 @@ returns c =
 
 returns-2 : tie.Need-returns-2 Inv-loop μ-loop
 returns-2 c =
+    let l = c .before .before .before .before .before .loop in
+    let tell = c .before .before .before .before .before .before .before .args .tell in
+    let s = now (c .before .before .before .before .before .before .before .args .s) in
+    sym (l .inv .0 ∙ refused-itself tell s (l .at) (l .frames) (l .state) (c .before .before .before .record-at .result) (c .before .before .before .record-at .ensures) (c .before .before .before .before .if1 .left) _ (c .before .enum-told .given .1) (c .refusal-in .result) (c .refusal-in .ensures))
+
+returns-3 : tie.Need-returns-3 Inv-loop μ-loop
+returns-3 c =
     let l = c .before .before .before .before .before .before .loop in
     let tell = c .before .before .before .before .before .before .before .before .args .tell in
     let s = now (c .before .before .before .before .before .before .before .before .args .s) in
     sym (l .inv .0 ∙ refused tell s (l .at) (l .frames) (l .state) (c .before .before .before .before .record-at .result) (c .before .before .before .before .record-at .ensures) (c .before .before .before .before .before .if1 .left) (c .before .before .applied .result) (c .before .before .applied .ensures) (c .if2 .taken))
 
-returns-3 : tie.Need-returns-3 Inv-loop μ-loop
-returns-3 c =
+returns-4 : tie.Need-returns-4 Inv-loop μ-loop
+returns-4 c =
     let l = c .before .before .before .before .before .before .before .before .before .before .loop in
     let tell = c .before .before .before .before .before .before .before .before .before .before .before .before .args .tell in
     let s = now (c .before .before .before .before .before .before .before .before .before .before .before .before .args .s) in
     rw (c .before .length-of .ensures, c .before .before .frames-in .ensures) (sym (l .inv .0 ∙ closed tell s (l .at) (l .frames) (l .state) (c .before .before .before .before .before .before .before .before .record-at .result) (c .before .before .before .before .before .before .before .before .record-at .ensures) (c .before .before .before .before .before .before .before .before .before .if1 .left) (c .before .before .before .before .before .before .applied .result) (c .before .before .before .before .before .before .applied .ensures) (c .before .before .before .before .if2 .left) (c .if3 .taken)))
 
-returns-4 : tie.Need-returns-4 Inv-loop μ-loop
-returns-4 c =
+returns-5 : tie.Need-returns-5 Inv-loop μ-loop
+returns-5 c =
     let l = c .before .before .before .before .before .before .before .before .before .before .before .loop in
     let tell = c .before .before .before .before .before .before .before .before .before .before .before .before .before .args .tell in
     let s = now (c .before .before .before .before .before .before .before .before .before .before .before .before .before .args .s) in
     rw (c .before .before .length-of .ensures, c .before .before .before .frames-in .ensures) (sym (l .inv .0 ∙ told tell s (l .at) (l .frames) (l .state) (c .before .before .before .before .before .before .before .before .before .record-at .result) (c .before .before .before .before .before .before .before .before .before .record-at .ensures) (c .before .before .before .before .before .before .before .before .before .before .if1 .left) (c .before .before .before .before .before .before .before .applied .result) (c .before .before .before .before .before .before .before .applied .ensures) (c .before .before .before .before .before .if2 .left) (c .before .if3 .left) (c .if4 .taken)))
-
-returns-5 : tie.Need-returns-5 Inv-loop μ-loop
-returns-5 c =
-    let l = c .before .before .before .before .before .loop in
-    let tell = c .before .before .before .before .before .before .before .args .tell in
-    let s = now (c .before .before .before .before .before .before .before .args .s) in
-    sym (l .inv .0 ∙ refused-itself tell s (l .at) (l .frames) (l .state) (c .before .before .before .record-at .result) (c .before .before .before .record-at .ensures) (c .before .before .before .before .if1 .left) _ (c .before .rec .given .1))
 
 pub scan-spec : {M : Type 1} → statement M
 scan-spec =
@@ -117,7 +120,8 @@ scan-spec =
     μ-loop
     loop-holds
     record-at-requires
-    enum-known-rec
+    enum-told
+    refusal-in-requires
     applied-requires
     frames-in-requires
     add-frames

@@ -1,0 +1,3 @@
+pub mod ByPage
+pub mod Demand
+pub mod Histories

@@ -1,0 +1,4 @@
+pub mod History
+pub mod Words
+pub mod Demand
+pub mod ByPage
