@@ -1,5 +1,5 @@
 #!/usr/bin/env bash
-# Holds README.md, docs/ and the header to the crates: README's table names each crate; each definition that CLAUSES.md names stands where it says; the
+# Holds docs/ and the header to the crates: the table of CRATES.md names each crate; each definition that CLAUSES.md names stands where it says; the
 # header's bits and words are those of the tables in specs/; PROMISES.md names each must-fail edit and each refutation under its crate, and none that
 # is not there. Status 0 where all is so.
 set -euo pipefail
@@ -10,7 +10,7 @@ says() { echo "docs: $*"; wrong=1; }
 tokens() { grep -o '`[^`]*`' <<<"$1" | tr -d '`' || true; }
 
 while IFS=: read -r crate _; do
-    grep -q "^| .*\`$crate\`.* |" README.md || says "README.md does not name the crate $crate"
+    grep -q "^| .*\`$crate\`.* |" docs/CRATES.md || says "CRATES.md does not name the crate $crate"
 done <crates.txt
 
 while IFS= read -r place; do

@@ -91,7 +91,7 @@ for scenario in examples/scenarios/*.txt; do
     name=$scenario
     listing=$(cat "${scenario%.txt}.listing")
     explained=${scenario%.txt}.explained
-    bench/scenario "$scenario" > "$work/in" || exit 1
+    bin/scenario "$scenario" > "$work/in" || exit 1
     said "$listing" "$(timeout 120 bin/ledger < "$work/in")"
     timeout 120 bin/explain < "$work/in" > "$work/out"
     said "$listing" "$(grep -v '^F ' "$work/out")"

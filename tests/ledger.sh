@@ -110,8 +110,9 @@ said 'E 1 2' "$found"
 # it ends where a write fails, and on an input without end
 name='a full device'
 "$work/trace" P 'M*5000' > "$work/in"
-timeout 60 "$program" < "$work/in" > /dev/full
-said 0 $?
+timeout 60 "$program" < "$work/in" > /dev/full 2> "$work/said"
+said 1 $?
+said 'ledger: the output is cut: its last line is not E' "$(cat "$work/said")"
 name='zeros without end'
 said "$(line 'R 15 0' 'E 0 0')" "$(timeout 60 "$program" < /dev/zero)"
 

@@ -1,0 +1,537 @@
+//! Runs the second program against the programs and the calls, over traces by seed, and says what the traces exercised.
+//!
+//!     compare --seed N --traces M [--from I] [--cases DIR] [--write DIR]
+//!
+//! --from I --traces 1 repeats trace I alone; --write keeps each trace and its listing.
+//!
+//! LEDGERS: programs that read a trace and print its listing, by path, with colons between. EXPLAINS: programs that print its
+//! explanation, and CALLS: programs made of calls.c and a card's library, likewise. second/compare builds them and sets all three.
+//! LEDGER is taken where LEDGERS is not set.
+
+use second::card::Card;
+use second::cover::Cover;
+use second::explain::explain;
+use second::generate::{self, Generated, Item};
+use second::provisioning::Provisioning;
+use second::random::Random;
+use second::reader;
+use second::report;
+use std::io::{Read, Write};
+use std::process::{Child, ChildStdin, ChildStdout, Command, Stdio};
+use std::sync::atomic::{AtomicU64, Ordering};
+use std::sync::mpsc::{channel, Sender};
+use std::time::Instant;
+
+/// A program fed by a thread, so that neither side waits for the other.
+struct Program {
+    path: String,
+    child: Child,
+    feed: Option<Sender<Vec<u8>>>,
+    answers: ChildStdout,
+}
+
+impl Program {
+    fn start(path: &str) -> Program {
+        let mut child = Command::new(path)
+            .stdin(Stdio::piped())
+            .stdout(Stdio::piped())
+            .spawn()
+            .unwrap_or_else(|e| panic!("{path} cannot be started: {e}"));
+        let mut stdin: ChildStdin = child.stdin.take().unwrap();
+        let answers = child.stdout.take().unwrap();
+        let (feed, orders) = channel::<Vec<u8>>();
+        std::thread::spawn(move || {
+            for bytes in orders {
+                // A program may stop reading at a record refused.
+                if stdin.write_all(&bytes).is_err() {
+                    break;
+                }
+            }
+        });
+        Program { path: path.into(), child, feed: Some(feed), answers }
+    }
+
+    /// Begins again, for it may be out of step with the orders.
+    fn again(&mut self) {
+        let _ = self.child.kill();
+        let _ = self.child.wait();
+        *self = Program::start(&self.path.clone());
+    }
+}
+
+/// What a program prints to a trace.
+fn printed(path: &str, trace: &[u8]) -> String {
+    let mut program = Program::start(path);
+    program.feed.take().unwrap().send(trace.to_vec()).unwrap();
+    let mut out = Vec::new();
+    program.answers.read_to_end(&mut out).unwrap();
+    let status = program.child.wait().unwrap();
+    let mut text = String::from_utf8_lossy(&out).into_owned();
+    if status.code().is_none() {
+        text += &format!("({status})\n");
+    }
+    text
+}
+
+/// Orders for calls.c, and what the second program answers to them.
+#[derive(Default)]
+struct Session {
+    orders: Vec<u8>,
+    expected: Vec<u8>,
+    /// Where each order's answer begins, and what it was.
+    calls: Vec<(usize, String)>,
+    /// Where the second program's own answers are not as demand 3 has them.
+    broken: Vec<String>,
+}
+
+impl Session {
+    fn answer(&mut self, what: String, word: u64, buffer: &[u8], cover: &mut Cover) {
+        cover.refusals[(word & 255) as usize] += 1;
+        self.calls.push((self.expected.len(), what));
+        self.expected.extend(word.to_le_bytes());
+        self.expected.push(0);
+        self.expected.extend(buffer);
+    }
+}
+
+struct Fields<'a> {
+    k: u8,
+    thr: [u32; 2],
+    degm: [u8; 2],
+    mode: [u8; 2],
+    dis: [u8; 2],
+    names: [&'a [u8]; 2],
+}
+
+fn fresh(session: &mut Session, card: &mut Card, sup: u8, f: &Fields, cover: &mut Cover) {
+    let o = &mut session.orders;
+    o.extend([b'F', sup, f.k]);
+    for layer in 0..2 {
+        o.extend(f.thr[layer].to_le_bytes());
+        o.push(f.degm[layer]);
+    }
+    o.extend(f.mode);
+    o.extend(f.dis);
+    for layer in 0..2 {
+        o.extend((f.names[layer].len() as u16).to_le_bytes());
+    }
+    for layer in 0..2 {
+        o.extend(f.names[layer]);
+    }
+    // A fresh supervisor is made whatever the bytes were; only the length counts. One made elsewhere is not the one compared.
+    let answer = Provisioning::of(f.k, f.thr, f.degm, f.mode, f.dis, f.names);
+    let word = match sup {
+        0 => card.fresh(true, answer),
+        4 => Card::default().fresh(true, answer),
+        _ => card.fresh(false, answer),
+    };
+    session.answer("otn_fresh".into(), word, &[], cover);
+}
+
+fn step(session: &mut Session, card: &mut Card, sup: u8, overhead: &[u8], flags: u8, counts: [u8; 2], cover: &mut Cover) {
+    let o = &mut session.orders;
+    o.extend([b'S', sup]);
+    o.extend((overhead.len() as u16).to_le_bytes());
+    o.extend(overhead);
+    o.extend([flags, counts[0], counts[1]]);
+    let before = card.supervisor.as_ref().map(|s| s.standing());
+    let word = card.step(sup == 0, overhead, flags, counts[0], counts[1]);
+    if let (Some(before), Some(s), 0) = (before, &card.supervisor, word & 255) {
+        cover.frame(&before, &s.standing());
+        let acts = [s.provisioning.acts(0), s.provisioning.acts(1)];
+        session.broken.extend(demand_3(word, acts));
+    }
+    session.answer(String::new(), word, &[], cover);
+}
+
+fn mark(session: &mut Session, card: &mut Card, sup: u8, room: usize, fill: u8, cover: &mut Cover) {
+    session.orders.extend([b'M', sup]);
+    session.orders.extend((room as u16).to_le_bytes());
+    session.orders.push(fill);
+    let mut buffer = vec![fill; room];
+    let word = card.mark(sup == 0, &mut buffer);
+    cover.marks += u64::from(word == 0);
+    if word == 0 && room >= 80 {
+        let figure = |i: usize| u32::from_le_bytes(buffer[4 * i..4 * i + 4].try_into().unwrap());
+        session.broken.extend(demand_3_second(&std::array::from_fn(figure)));
+    }
+    session.answer(format!("otn_mark, {room} bytes"), word, &buffer, cover);
+}
+
+fn trace(session: &mut Session, card: &Card, sup: u8, layer: u8, room: usize, fill: u8, cover: &mut Cover) {
+    session.orders.extend([b'T', sup, layer]);
+    session.orders.extend((room as u16).to_le_bytes());
+    session.orders.push(fill);
+    let mut buffer = vec![fill; room];
+    let word = card.trace(sup == 0, layer, &mut buffer);
+    session.answer(format!("otn_trace, layer {layer}, {room} bytes"), word, &buffer, cover);
+}
+
+/// What demand 3 says of one frame's report: what is not so.
+fn demand_3(word: u64, acts: [bool; 2]) -> Option<String> {
+    let head = word >> 8 & 15;
+    let stands = |place: u32| word >> place & 1 == 1;
+    let causes = [(44, 3, true), (45, 4, true), (46, 5, acts[0]), (50, 7, true), (51, 8, true), (52, 9, acts[1])];
+    for (place, of, fails) in causes {
+        if fails && stands(place) != (head == of) {
+            return Some(format!("head {head}, cause of head {of}: {}", stands(place)));
+        }
+    }
+    (stands(37) != (head != 0)).then(|| format!("head {head}, path failed: {}", stands(37)))
+}
+
+/// And of a closed second.
+fn demand_3_second(s: &[u32; 20]) -> Option<String> {
+    if s[2..12].iter().sum::<u32>() != s[1] {
+        return Some(format!("the ten figures do not add up to the frames: {s:?}"));
+    }
+    let most = s[2] + s[11];
+    (s[16] > most || s[17] > most).then(|| format!("more path blocks than frames clear or under path trace mismatch: {s:?}"))
+}
+
+/// A call that is refused, of any number, or one that changes nothing.
+fn aside(rng: &mut Random, session: &mut Session, card: &mut Card, p: &Provisioning, cover: &mut Cover) {
+    let sup = if rng.once_in(3) { rng.within(1, 4) as u8 } else { 0 };
+    let mut overhead = vec![0u8; rng.pick(&[0, 1, 63, 65, 128, 300])];
+    rng.fill(&mut overhead);
+    let good = [0u8; 64];
+    match rng.below(8) {
+        0 => step(session, card, sup, &overhead, rng.byte(), [rng.byte(), rng.byte()], cover),
+        1 => step(session, card, sup, &good, rng.within(4, 255) as u8, [rng.below(12) as u8, rng.byte()], cover),
+        2 => {
+            let mut counts = [rng.below(9) as u8, rng.below(9) as u8];
+            counts[rng.below(2) as usize] = rng.within(9, 255) as u8;
+            step(session, card, sup, &good, rng.below(4) as u8, counts, cover);
+        }
+        3 => step(session, card, rng.within(1, 4) as u8, &good, 0, [0; 2], cover),
+        4 => mark(session, card, rng.within(1, 4) as u8, rng.pick(&[0, 1, 79, 80, 81]), rng.byte(), cover),
+        5 | 6 => {
+            let layer = if rng.once_in(4) { rng.byte() } else { rng.below(2) as u8 };
+            let room = if rng.once_in(3) { rng.pick(&[0, 1, 63, 65, 200]) } else { 64 };
+            trace(session, card, sup, layer, room, rng.byte(), cover);
+        }
+        _ => {
+            // A fresh that is refused: one field or more out of range.
+            let empty: [u8; 33] = [7; 33];
+            let mut f =
+                Fields { k: p.k, thr: p.degthr, degm: p.degm, mode: p.mode, dis: p.dis, names: [&p.names[0], &p.names[1]] };
+            let layer = rng.below(2) as usize;
+            let ceiling = [20_420u32, 82_025, 329_492][p.k as usize - 1];
+            for wrong in 5..=10 {
+                if !rng.once_in(3) {
+                    continue;
+                }
+                match wrong {
+                    5 => f.k = rng.pick(&[0, 4, 255]),
+                    6 => f.thr[layer] = rng.pick(&[0, ceiling + 1, u32::MAX]),
+                    7 => f.degm[layer] = rng.pick(&[0, 1, 11, 255]),
+                    8 => f.mode[layer] = rng.pick(&[4, 255]),
+                    9 => f.dis[layer] = rng.pick(&[3, 255]),
+                    _ => f.names[layer] = &empty[..rng.pick(&[0, 31, 33])],
+                }
+            }
+            let accepted = Provisioning::of(f.k, f.thr, f.degm, f.mode, f.dis, f.names).is_ok();
+            let sup = if accepted { rng.within(1, 4) as u8 } else { sup };
+            fresh(session, card, sup, &f, cover);
+        }
+    }
+}
+
+fn session(rng: &mut Random, g: &Generated, cover: &mut Cover) -> Session {
+    let mut session = Session::default();
+    let mut card = Card::default();
+    let p = &g.provisioning;
+    let fields = Fields { k: p.k, thr: p.degthr, degm: p.degm, mode: p.mode, dis: p.dis, names: [&p.names[0], &p.names[1]] };
+    fresh(&mut session, &mut card, 0, &fields, cover);
+    let often = rng.pick(&[5, 20, 100]);
+    for item in &g.items {
+        if rng.once_in(often) {
+            aside(rng, &mut session, &mut card, p, cover);
+        }
+        match item {
+            Item::Frame(f) => {
+                // Bytes that are ignored hold anything.
+                let mut overhead = f.overhead();
+                for i in (10..32).chain(32..41).chain(44..64).chain([8, 42]) {
+                    overhead[i] = rng.byte();
+                }
+                step(&mut session, &mut card, 0, &overhead, f.flags, f.violations, cover);
+                if f.mfas % 64 == 63 && rng.once_in(4) {
+                    trace(&mut session, &card, 0, rng.below(2) as u8, 64, rng.byte(), cover);
+                }
+            }
+            Item::Mark => {
+                let room = if rng.once_in(4) { rng.pick(&[0, 1, 5, 79, 81, 200]) } else { 80 };
+                mark(&mut session, &mut card, 0, room, rng.byte(), cover);
+            }
+        }
+    }
+    session.orders.push(b'Z');
+    session
+}
+
+/// What a worker is given: whose trace it is, the trace, its listing and explanation (empty where it is not compared), the orders and
+/// their answers.
+struct Task {
+    whose: String,
+    trace: Vec<u8>,
+    listing: String,
+    explanation: String,
+    session: Option<Session>,
+}
+
+/// One program under test with its thread. The tasks in waiting are few, so that the generator does not run far ahead.
+struct Worker {
+    tasks: std::sync::mpsc::SyncSender<std::sync::Arc<Task>>,
+    thread: std::thread::JoinHandle<()>,
+}
+
+/// After so many differences no more is compared.
+const MANY: u64 = 10;
+static DIFFERENCES: AtomicU64 = AtomicU64::new(0);
+
+fn enough() -> bool {
+    DIFFERENCES.load(Ordering::Relaxed) >= MANY
+}
+
+fn differs(what: String) {
+    DIFFERENCES.fetch_add(1, Ordering::Relaxed);
+    println!("{what}");
+}
+
+/// Compares what a program prints to each trace with the text that the task has for it.
+fn text_worker(path: String, text: fn(&Task) -> &str) -> Worker {
+    let (tasks, waiting) = std::sync::mpsc::sync_channel::<std::sync::Arc<Task>>(8);
+    let thread = std::thread::spawn(move || {
+        for task in waiting {
+            let expected = text(&task);
+            if expected.is_empty() || enough() {
+                continue;
+            }
+            let got = printed(&path, &task.trace);
+            if got != expected {
+                differs(format!("{}: {path}: {}", task.whose, parting(&got, expected)));
+            }
+        }
+    });
+    Worker { tasks, thread }
+}
+
+/// Gives every order to a program made of calls.c and compares what it answers.
+fn calls_worker(path: String) -> Worker {
+    let (tasks, waiting) = std::sync::mpsc::sync_channel::<std::sync::Arc<Task>>(8);
+    let thread = std::thread::spawn(move || {
+        let mut program = Program::start(&path);
+        for task in waiting {
+            let Some(session) = task.session.as_ref().filter(|_| !enough()) else { continue };
+            if let Err(what) = check_calls(&mut program, session) {
+                differs(format!("{}: {path}: {what}", task.whose));
+                program.again();
+            }
+        }
+        drop(program.feed.take());
+        let status = program.child.wait().unwrap();
+        if !status.success() {
+            differs(format!("{path}: {status}"));
+        }
+    });
+    Worker { tasks, thread }
+}
+
+/// The programs under test, by path.
+struct Programs {
+    ledgers: Vec<String>,
+    explains: Vec<String>,
+    calls: Vec<String>,
+}
+
+impl Programs {
+    /// The explanation, where there is a program to hold it against.
+    fn explanation(&self, trace: &[u8]) -> String {
+        if self.explains.is_empty() {
+            return String::new();
+        }
+        explain(trace)
+    }
+}
+
+struct Workers(Vec<Worker>);
+
+impl Workers {
+    fn start(programs: &Programs) -> Workers {
+        let ledgers = programs.ledgers.iter().map(|path| text_worker(path.clone(), |task| &task.listing));
+        let explains = programs.explains.iter().map(|path| text_worker(path.clone(), |task| &task.explanation));
+        let calls = programs.calls.iter().map(|path| calls_worker(path.clone()));
+        Workers(ledgers.chain(explains).chain(calls).collect())
+    }
+    fn give(&self, task: Task) {
+        let task = std::sync::Arc::new(task);
+        for worker in &self.0 {
+            worker.tasks.send(task.clone()).expect("the worker goes on");
+        }
+    }
+    /// Waits for all.
+    fn end(self) {
+        let threads: Vec<_> = self.0.into_iter().map(|w| w.thread).collect();
+        threads.into_iter().for_each(|t| t.join().expect("the worker ends"));
+    }
+}
+
+fn check_calls(program: &mut Program, session: &Session) -> Result<(), String> {
+    let feed = program.feed.as_ref().unwrap();
+    feed.send(session.orders.clone()).map_err(|_| "it takes no more orders".to_string())?;
+    let mut got = vec![0u8; session.expected.len()];
+    program.answers.read_exact(&mut got).map_err(|e| format!("it stopped answering: {e}"))?;
+    if got == session.expected {
+        return Ok(());
+    }
+    let at = got.iter().zip(&session.expected).position(|(a, b)| a != b).unwrap();
+    let call = session.calls.partition_point(|(start, _)| *start <= at) - 1;
+    let start = session.calls[call].0;
+    let word = |bytes: &[u8]| u64::from_le_bytes(bytes[start..start + 8].try_into().unwrap());
+    let (a, b) = (word(&got), word(&session.expected));
+    let frames = session.calls[..call].iter().filter(|(_, what)| what.is_empty()).count();
+    let what = if session.calls[call].1.is_empty() { "otn_step" } else { &session.calls[call].1 };
+    Err(format!(
+        "call {} ({what}, after {frames} steps): answered {a:#x}, second {b:#x} ({}); complaints {:#x}; byte {} of the answer",
+        call + 1,
+        report::difference(a, b),
+        got[start + 8],
+        at - start
+    ))
+}
+
+fn paths(variable: &str) -> Vec<String> {
+    let value = std::env::var(variable).unwrap_or_default();
+    value.split(':').filter(|p| !p.is_empty()).map(String::from).collect()
+}
+
+/// Where two texts part.
+fn parting(got: &str, expected: &str) -> String {
+    match got.lines().zip(expected.lines()).enumerate().find(|(_, (a, b))| a != b) {
+        Some((i, (a, b))) => format!("line {}: printed {a:?}, expected {b:?}", i + 1),
+        None => format!("{} lines, expected {}", got.lines().count(), expected.lines().count()),
+    }
+}
+
+/// The directed cases: the second program, each program and each card's calls against the listing and reports in the text.
+fn directed(dir: &str, programs: &Programs, write: &Option<String>) {
+    let workers = Workers::start(programs);
+    let mut names: Vec<_> = std::fs::read_dir(dir).expect("the cases are there").map(|e| e.unwrap().path()).collect();
+    names.retain(|p| p.extension().is_some_and(|e| e == "txt"));
+    names.sort();
+    let mut count = 0;
+    for path in names {
+        let name = path.file_stem().unwrap().to_string_lossy().into_owned();
+        let whose = format!("case {name}");
+        let fail = |what: String| differs(format!("{whose}: second: {what}"));
+        count += 1;
+        let case = match second::cases::read(&std::fs::read_to_string(&path).unwrap()) {
+            Ok(case) => case,
+            Err(what) => {
+                fail(what);
+                continue;
+            }
+        };
+        if let Some(dir) = write {
+            std::fs::write(format!("{dir}/{name}.trace"), &case.bytes).unwrap();
+            std::fs::write(format!("{dir}/{name}.listing"), &case.listing).unwrap();
+        }
+        for unmet in &case.unmet {
+            fail(unmet.clone());
+        }
+        let listed = reader::list(&case.bytes);
+        if listed != case.listing {
+            fail(parting(&listed, &case.listing));
+        }
+        // The calls meet a full second in trace 0.
+        let g = Generated { provisioning: case.provisioning, items: case.items, bytes: Vec::new(), about: String::new() };
+        let session = (g.items.len() < 100_000).then(|| session(&mut Random::new(count), &g, &mut Cover::default()));
+        let explanation = programs.explanation(&case.bytes);
+        workers.give(Task { whose, trace: case.bytes, listing: case.listing, explanation, session });
+    }
+    workers.end();
+    println!("{count} directed cases, {} differences", DIFFERENCES.load(Ordering::Relaxed));
+}
+
+fn main() {
+    let mut seed = 1u64;
+    let mut traces = 500u64;
+    let mut from = 0u64;
+    let mut write: Option<String> = None;
+    let mut cases: Option<String> = None;
+    let mut args = std::env::args().skip(1);
+    while let Some(arg) = args.next() {
+        let value = args.next();
+        match (arg.as_str(), value) {
+            ("--seed", Some(v)) => seed = v.parse().expect("--seed takes a number"),
+            ("--traces", Some(v)) => traces = v.parse().expect("--traces takes a number"),
+            ("--from", Some(v)) => from = v.parse().expect("--from takes a number"),
+            ("--write", Some(v)) => write = Some(v),
+            ("--cases", Some(v)) => cases = Some(v),
+            _ => {
+                eprintln!("compare --seed N --traces M [--from I] [--cases DIR] [--write DIR]");
+                std::process::exit(2);
+            }
+        }
+    }
+    let mut programs = Programs { ledgers: paths("LEDGERS"), explains: paths("EXPLAINS"), calls: paths("CALLS") };
+    if programs.ledgers.is_empty() {
+        programs.ledgers = paths("LEDGER");
+    }
+    let began = Instant::now();
+    if let Some(dir) = &cases {
+        directed(dir, &programs, &write);
+    }
+    println!("seed {seed}, {traces} traces");
+    let mut cover = Cover::default();
+    let mut explanations = 0u64;
+    let workers = Workers::start(&programs);
+    for index in from..from + traces {
+        if enough() {
+            println!("{MANY} differences; no more is compared");
+            break;
+        }
+        let g = generate::trace(seed, index);
+        let whose = format!("seed {seed} trace {index} ({})", g.about);
+        // The full second's texts are a directed case.
+        let listing = if index == 0 { String::new() } else { reader::list(&g.bytes) };
+        let explanation = if index == 0 { String::new() } else { programs.explanation(&g.bytes) };
+        explanations += u64::from(!explanation.is_empty());
+        if let Some(number) = listing.lines().find_map(|l| l.strip_prefix("R ")?.split(' ').next()?.parse::<usize>().ok()) {
+            cover.refusals[number] += 1;
+        }
+        if let Some(dir) = &write {
+            std::fs::write(format!("{dir}/{seed}-{index}.trace"), &g.bytes).unwrap();
+            std::fs::write(format!("{dir}/{seed}-{index}.listing"), &listing).unwrap();
+        }
+        let mut rng = Random::new(seed ^ index.wrapping_mul(0xD1B5_4A32_D192_ED03));
+        let session = session(&mut rng, &g, &mut cover);
+        for broken in session.broken.iter().take(1) {
+            differs(format!("{whose}: second: demand 3: {broken}"));
+        }
+        workers.give(Task { whose, trace: g.bytes, listing, explanation, session: Some(session) });
+    }
+    workers.end();
+    let failures = DIFFERENCES.load(Ordering::Relaxed);
+    let (table, wrong) = cover.table();
+    println!("{table}");
+    for line in &wrong {
+        println!("{line}");
+    }
+    println!(
+        "compared: {} listings each of {}, {} explanations each of {}, {} calls each of {}; {:.1} s",
+        traces,
+        programs.ledgers.len(),
+        explanations,
+        programs.explains.len(),
+        cover.refusals.iter().sum::<u64>(),
+        programs.calls.len(),
+        began.elapsed().as_secs_f64()
+    );
+    if failures > 0 || !wrong.is_empty() {
+        println!("compare: {failures} differences, {} rows wrong (seed {seed})", wrong.len());
+        std::process::exit(1);
+    }
+    println!("compare: all equal (seed {seed})");
+}

@@ -1,0 +1,23 @@
+//! The second program: document 01 written again from the page alone, as questions put to recorded history.
+//!
+//! Nothing here counts a run or keeps a total from frame to frame. What was received and what was decided is recorded frame by
+//! frame, and each state is found by looking back over the record: the latest row of five alike since the last forgetting, the
+//! three cycles that end here, the OOF frames with no long IF stretch between them. A look-back stops after a window of frames and
+//! takes up the answer recorded there, which is the same question put to the same history.
+
+pub mod card;
+pub mod cases;
+pub mod cover;
+pub mod explain;
+pub mod frame;
+pub mod generate;
+pub mod history;
+pub mod listing;
+pub mod provisioning;
+pub mod random;
+pub mod reader;
+pub mod report;
+pub mod supervisor;
+
+#[cfg(test)]
+mod tests;
