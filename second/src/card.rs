@@ -1,19 +1,36 @@
 //! What each C call answers, over a supervisor that may not be there: a lent supervisor of a wrong length is refusal 17.
 
-use crate::provisioning::Provisioning;
+use crate::provisioning::{LevelProvisioning, Provisioning};
 use crate::supervisor::{Second, Supervisor};
+use crate::WITH_LEVELS;
 
 /// The word a call answers.
 pub fn word(answer: Result<u64, u8>) -> u64 {
     answer.unwrap_or_else(u64::from)
 }
 
-/// The bytes otn_mark stores in a buffer, as many as it has room for; the rest keep their contents.
+/// Bytes of the record that otn_mark stores.
+pub const RECORD: usize = if WITH_LEVELS { 176 } else { 80 };
+
+/// The bytes otn_mark stores in a buffer, as many as it has room for; the rest keep their contents. With levels each level has its
+/// fixed place, and there are zeros where it is not provisioned.
 pub fn record(second: &Second, buffer: &mut [u8]) {
-    let bytes = second.iter().flat_map(|figure| figure.to_le_bytes());
-    for (place, byte) in buffer.iter_mut().zip(bytes) {
+    let levels = second.levels.iter().flat_map(|four| four.unwrap_or([0; 4]));
+    let bytes = second.figures.into_iter().chain(levels).flat_map(u32::to_le_bytes);
+    for (place, byte) in buffer.iter_mut().zip(bytes.take(RECORD)) {
         *place = byte;
     }
+}
+
+/// The fields that otn_level is given.
+#[derive(Clone, Copy, Debug)]
+pub struct LevelFields<'a> {
+    pub level: u8,
+    pub thr: u32,
+    pub degm: u8,
+    pub mode: u8,
+    pub dis: u8,
+    pub names: &'a [u8],
 }
 
 #[derive(Clone, Debug, Default)]
@@ -35,9 +52,49 @@ impl Card {
         }
     }
 
+    /// 17, then in number order: 6 to 10, 16 where a frame or a mark was accepted, 18.
+    pub fn level(&mut self, right_length: bool, f: &LevelFields) -> u64 {
+        match &mut self.supervisor {
+            Some(s) if right_length => match LevelProvisioning::of(s.provisioning.k, f.thr, f.degm, f.mode, f.dis, f.names) {
+                Err(number) => u64::from(number),
+                Ok(_) if s.begun() => 16,
+                Ok(_) if !s.takes(f.level) => 18,
+                Ok(p) => {
+                    s.provision(f.level, p);
+                    0
+                }
+            },
+            _ => 17,
+        }
+    }
+
     pub fn step(&mut self, right_length: bool, overhead: &[u8], flags: u8, sm: u8, pm: u8) -> u64 {
         match &mut self.supervisor {
             Some(s) if right_length => word(s.step(overhead, flags, sm, pm)),
+            _ => 17,
+        }
+    }
+
+    pub fn step_levels(&mut self, right_length: bool, overhead: &[u8], flags: u8, sm: u8, pm: u8, counts: [u8; 6]) -> u64 {
+        match &mut self.supervisor {
+            Some(s) if right_length => word(s.step_levels(overhead, flags, sm, pm, counts)),
+            _ => 17,
+        }
+    }
+
+    pub fn level_report(&self, right_length: bool, level: u8) -> u64 {
+        match &self.supervisor {
+            Some(s) if right_length => word(s.level_report(level)),
+            _ => 17,
+        }
+    }
+
+    pub fn level_trace(&self, right_length: bool, level: u8, buffer: &mut [u8]) -> u64 {
+        match &self.supervisor {
+            Some(s) if right_length => word(s.level_trace(level, buffer.len()).map(|trace| {
+                buffer.copy_from_slice(&trace);
+                0
+            })),
             _ => 17,
         }
     }

@@ -15,13 +15,26 @@
 //! listing                      the rest of the file is the listing
 //! ```
 //!
+//! With levels (cases-levels/):
+//!
+//! ```text
+//! none                         in the place of provision: no provisioning record, and what is expected is of a plain one
+//! level 3 thr=1 degm=2 mode=0 dis=0 names=0:5           a record of kind 4; what is not named is as here
+//! counts                       from here frames are of kind 5, with the counts of all six levels; without it of kind 1
+//! no counts                    from here frames are of kind 1 again
+//! expect t3.dLTC !t3.aTSF t3.trace !all.dTIM            bits of otn_level_report, after the last frame and mark
+//! begins t3.cLTC 1             from frame to frame
+//! ```
+//!
 //! Fields: s. and p. before bdi, bei, count, tti; iae, stat, flags, mfas (a number, or off: the count with its highest bit turned),
-//! fas (six hex bytes with no spaces, or 2to5 and 3to5: only these columns right). tti=0:5 is a trace of zeros whose byte 0 is 5;
-//! which byte is sent goes by the count. # begins a comment, which in every case says how the listing was worked out.
+//! fas (six hex bytes with no spaces, or 2to5 and 3to5: only these columns right); t1. to t6., or all. for the six of them, before
+//! bdi, bei, count, stat, tti. tti=0:5 is a trace of zeros whose byte 0 is 5; which byte is sent goes by the count. # begins a
+//! comment, which in every case says how the listing was worked out.
 
-use crate::frame::{plain, Sent};
+use crate::frame::{plain, plain_level, Sent};
 use crate::generate::Item;
-use crate::provisioning::Provisioning;
+use crate::level;
+use crate::provisioning::{LevelProvisioning, Provisioning};
 use crate::reader::Trace;
 use crate::report;
 use crate::supervisor::Supervisor;
@@ -73,10 +86,69 @@ fn provision(fields: &[&str]) -> Result<Provisioning, String> {
     Ok(p)
 }
 
+fn level_provision(fields: &[&str]) -> Result<LevelProvisioning, String> {
+    let mut p = plain_level();
+    for field in fields {
+        let (key, value) = field.split_once('=').ok_or(format!("{field:?}"))?;
+        match key {
+            "thr" => p.degthr = number(value)? as u32,
+            "degm" => p.degm = number(value)? as u8,
+            "mode" => p.mode = number(value)? as u8,
+            "dis" => p.dis = number(value)? as u8,
+            "names" => {
+                let (at, byte) = byte_of(value)?;
+                p.names[at] = byte;
+            }
+            _ => return Err(format!("{key:?} is no field of a level")),
+        }
+    }
+    Ok(p)
+}
+
+/// The level in `t3`, and what follows the dot.
+fn of_level(name: &str) -> Option<(u8, &str)> {
+    let (level, rest) = name.strip_prefix('t')?.split_once('.')?;
+    Some((level.parse().ok()?, rest))
+}
+
+/// What is expected of each of the six levels, or the word alone.
+fn of_all(word: &str) -> Vec<String> {
+    let (not, name) = word.strip_prefix('!').map_or(("", word), |name| ("!", name));
+    match name.strip_prefix("all.") {
+        Some(name) => (1..=6).map(|level| format!("{not}t{level}.{name}")).collect(),
+        None => vec![word.into()],
+    }
+}
+
+/// One field of a level.
+fn level_field(l: &mut level::Received, count: u8, key: &str, value: &str) -> Result<(), String> {
+    match key {
+        "bdi" => l.bdi = value == "1",
+        "bei" => l.bei = number(value)? as u8,
+        "count" => l.violations = number(value)? as u8,
+        "stat" => l.stat = number(value)? as u8,
+        "tti" => {
+            let (at, byte) = byte_of(value)?;
+            l.tti = if usize::from(count) % 64 == at { byte } else { 0 };
+        }
+        _ => return Err(format!("{key:?} is no field of a level's bytes")),
+    }
+    Ok(())
+}
+
 fn frame(zeros: bool, count: u8, fields: &[&str]) -> Result<Sent, String> {
     let mut f = if zeros { Sent::ZEROS } else { Sent::good(count) };
     for field in fields {
         let (key, value) = field.split_once('=').ok_or(format!("{field:?}"))?;
+        if let Some(key) = key.strip_prefix("all.") {
+            f.levels.iter_mut().try_for_each(|l| level_field(l, count, key, value))?;
+            continue;
+        }
+        if let Some((level, key)) = of_level(key) {
+            let l = f.levels.get_mut(usize::from(level).wrapping_sub(1)).ok_or(format!("{level} is no level"))?;
+            level_field(l, count, key, value)?;
+            continue;
+        }
         let (layer, key) = match key.split_once('.') {
             Some(("s", key)) => (0, key),
             Some(("p", key)) => (1, key),
@@ -144,17 +216,23 @@ pub fn read(text: &str) -> Result<Case, String> {
     let mut lines = lines.into_iter();
     let (at, head) = lines.next().ok_or("empty")?;
     let fields: Vec<&str> = head.split_whitespace().collect();
-    if fields[0] != "provision" {
-        return Err(format!("line {at}: the first line provisions"));
-    }
-    let p = provision(&fields[1..]).map_err(|e| format!("line {at}: {e}"))?;
     let mut trace = Trace::default();
-    trace.provisioning(&p);
+    let p = match fields[0] {
+        "provision" => provision(&fields[1..]).map_err(|e| format!("line {at}: {e}"))?,
+        "none" => plain(1),
+        _ => return Err(format!("line {at}: the first line provisions")),
+    };
+    if fields[0] == "provision" {
+        trace.provisioning(&p);
+    }
     let mut case = Case { provisioning: p.clone(), items: Vec::new(), bytes: Vec::new(), listing, unmet: Vec::new() };
     let mut s = Supervisor::fresh(p);
     let mut count = 0u8;
     let mut word = 0u64;
     let mut begins = [0u64; 64];
+    let mut with_counts = false;
+    let mut level_words = [0u64; 6];
+    let mut level_begins = [[0u64; 64]; 6];
     for (at, line) in lines {
         let fail = |e: String| format!("line {at}: {e}");
         let words: Vec<&str> = line.split_whitespace().collect();
@@ -165,18 +243,37 @@ pub fn read(text: &str) -> Result<Case, String> {
                 let mut left = if words[0] == "to" { u64::MAX } else { value };
                 while left > 0 {
                     let f = frame(zeros, count, &words[2..]).map_err(fail)?;
-                    trace.frame(&f.overhead(), f.flags, f.violations[0], f.violations[1]);
+                    let (sm, pm) = (f.violations[0], f.violations[1]);
+                    let counts = if with_counts { f.counts() } else { [0; 6] };
+                    match with_counts {
+                        true => trace.frame_levels(&f.overhead(), f.flags, sm, pm, counts),
+                        false => trace.frame(&f.overhead(), f.flags, sm, pm),
+                    }
                     case.items.push(Item::Frame(f));
-                    if let Ok(answer) = s.step(&f.overhead(), f.flags, f.violations[0], f.violations[1]) {
-                        for (place, number) in begins.iter_mut().enumerate() {
-                            *number += (answer & !word) >> place & 1;
-                        }
+                    if let Ok(answer) = s.step_levels(&f.overhead(), f.flags, sm, pm, counts) {
+                        began(&mut begins, word, answer);
                         word = answer;
+                        for level in 1..=6 {
+                            let answer = s.level_report(level).expect("it is a level");
+                            let at = usize::from(level) - 1;
+                            began(&mut level_begins[at], level_words[at], answer);
+                            level_words[at] = answer;
+                        }
                     }
                     left = if words[0] == "to" && u64::from(count) % 64 == value { 0 } else { left - 1 };
                     count = count.wrapping_add(1);
                 }
             }
+            "level" => {
+                let level = words.get(1).copied().unwrap_or("");
+                let (level, p) = (number(level).map_err(fail)? as u8, level_provision(&words[2..]).map_err(fail)?);
+                trace.level(level, &p);
+                if !s.begun() && s.takes(level) {
+                    s.provision(level, p);
+                }
+            }
+            "counts" => with_counts = true,
+            "no" if words[1..] == ["counts"] => with_counts = false,
             "jump" => count = count.wrapping_add(number(words[1]).map_err(fail)? as u8),
             "mark" => {
                 trace.mark();
@@ -189,18 +286,30 @@ pub fn read(text: &str) -> Result<Case, String> {
                 }
             }
             "begins" => {
-                let met = begins[place(words[1]).ok_or(fail(format!("{:?} is no bit", words[1])))? as usize];
+                let (of, place) = match of_level(words[1]) {
+                    Some((level, name)) => (&level_begins[usize::from(level) - 1], level_place(name)),
+                    None => (&begins, place(words[1])),
+                };
+                let met = of[place.ok_or(fail(format!("{:?} is no bit", words[1])))? as usize];
                 if met != number(words[2]).map_err(fail)? {
                     case.unmet.push(fail(format!("{} began {met} times", words[1])));
                 }
             }
             "expect" => {
-                for want in &words[1..] {
+                for want in words[1..].iter().flat_map(|word| of_all(word)) {
                     let (stands, name) = match want.strip_prefix('!') {
                         Some(name) => (false, name),
-                        None => (true, *want),
+                        None => (true, &want[..]),
                     };
                     let met = match name {
+                        _ if of_level(name).is_some() => {
+                            let (level, name) = of_level(name).expect("it is one");
+                            match (name, level_place(name)) {
+                                ("trace", _) => s.level_trace(level, 64).is_ok(),
+                                (_, Some(place)) => s.level_report(level).is_ok_and(|word| word >> place & 1 == 1),
+                                _ => return Err(fail(format!("{name:?} is no bit of a level"))),
+                            }
+                        }
                         "s.trace" => s.trace(0, 64).is_ok(),
                         "p.trace" => s.trace(1, 64).is_ok(),
                         _ if name.starts_with("head=") => word >> 8 & 15 == number(&name[5..]).map_err(fail)?,
@@ -216,6 +325,18 @@ pub fn read(text: &str) -> Result<Case, String> {
     }
     case.bytes = trace.0;
     Ok(case)
+}
+
+/// Counts the bits that stand in `after` and not in `before`.
+fn began(counted: &mut [u64; 64], before: u64, after: u64) {
+    for (place, number) in counted.iter_mut().enumerate() {
+        *number += (after & !before) >> place & 1;
+    }
+}
+
+/// Where a bit of a level's report stands.
+fn level_place(name: &str) -> Option<u32> {
+    report::level_bits(&Default::default()).iter().find(|(_, n, _)| *n == name).map(|(place, _, _)| *place)
 }
 
 /// Where a bit of the report stands, by the name used in the cases.

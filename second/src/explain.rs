@@ -1,11 +1,12 @@
 //! The explanation of a trace: its listing, with a line for each frame at which anything changed.
 
+use crate::level::Level;
 use crate::provisioning::{PATH, SECTION};
 use crate::reader;
 use crate::report;
 use crate::supervisor::Supervisor;
 
-/// What may stand after a frame, in the order of the line.
+/// What may stand after a frame, in the order of the line. The levels' words follow, then the head, then the accepted traces.
 const NAMES: [&str; 38] = [
     "IF", "IM", "TSF-P", "OTUk-AIS", "dLOF", "dLOM", //
     "SM.SSF", "SM.dTIM", "SM.dBDI", "SM.dIAE", "SM.dBIAE", "SM.dDEG", //
@@ -15,16 +16,21 @@ const NAMES: [&str; 38] = [
     "PM.cOCI", "PM.cLCK", "PM.cTIM", "PM.cDEG", "PM.cBDI", "PM.cSSF",
 ];
 
+const LEVELS: [u8; 6] = [1, 2, 3, 4, 5, 6];
+
 /// What is told of the state after a frame; by default nothing stands, the head is 0, and no trace is accepted.
 struct State {
     stands: [bool; 38],
+    /// Of each level, in the order of otn_level_report's bits. Nothing stands of one that is not provisioned.
+    levels: [[bool; 19]; 6],
     head: u8,
-    traces: [Option<[u8; 64]>; 2],
+    /// Section, path, levels 1 to 6.
+    traces: [Option<[u8; 64]>; 8],
 }
 
 impl State {
     fn before_all() -> State {
-        State { stands: [false; 38], head: 0, traces: [None; 2] }
+        State { stands: [false; 38], levels: [[false; 19]; 6], head: 0, traces: [None; 8] }
     }
 
     /// The report's bits come in the order of the names; the flags stand between IM and dLOF.
@@ -35,30 +41,54 @@ impl State {
         stands[..2].copy_from_slice(&bits[..2]);
         stands[2..4].copy_from_slice(&[s.tsf, s.otu_ais]);
         stands[4..].copy_from_slice(&bits[2..]);
-        State { stands, head: report::head(&s), traces: [SECTION, PATH].map(|layer| supervisor.accepted_trace(layer).copied()) }
+        let levels = LEVELS.map(|level| supervisor.level(level).map_or([false; 19], stands_of));
+        let mut traces = [None; 8];
+        for (i, trace) in traces.iter_mut().enumerate() {
+            let accepted = match i {
+                SECTION | PATH => supervisor.accepted_trace(i),
+                _ => supervisor.level(i as u8 - 1).and_then(Level::accepted_trace),
+            };
+            *trace = accepted.copied();
+        }
+        State { stands, levels, head: report::head(&s), traces }
     }
 
     /// What is other than before, each after one blank.
     fn changes_since(&self, before: &State) -> String {
         let mut out = String::new();
         for (i, name) in NAMES.iter().enumerate() {
-            match (before.stands[i], self.stands[i]) {
-                (false, true) => out += &format!(" +{name}"),
-                (true, false) => out += &format!(" -{name}"),
-                _ => {}
+            out += &change(before.stands[i], self.stands[i], name);
+        }
+        let names = report::level_bits(&Default::default()).map(|(_, name, _)| name);
+        for (level, (was, now)) in LEVELS.iter().zip(before.levels.iter().zip(&self.levels)) {
+            for i in (0..19).filter(|i| was[*i] != now[*i]) {
+                out += &change(was[i], now[i], &format!("TCM{level}.{}", names[i]));
             }
         }
         if self.head != before.head {
             out += &format!(" head={}", self.head);
         }
-        for (layer, name) in [(SECTION, "SM.trace"), (PATH, "PM.trace")] {
-            match (&before.traces[layer], &self.traces[layer]) {
-                (was, Some(now)) if *was != Some(*now) => out += &format!(" {name}=\"{}\"", readable(now)),
-                (Some(_), None) => out += &format!(" -{name}"),
+        for (i, of) in ["SM", "PM", "TCM1", "TCM2", "TCM3", "TCM4", "TCM5", "TCM6"].iter().enumerate() {
+            match (&before.traces[i], &self.traces[i]) {
+                (was, Some(now)) if *was != Some(*now) => out += &format!(" {of}.trace=\"{}\"", readable(now)),
+                (Some(_), None) => out += &format!(" -{of}.trace"),
                 _ => {}
             }
         }
         out
+    }
+}
+
+fn stands_of(level: &Level) -> [bool; 19] {
+    report::level_bits(&level.standing()).map(|(_, _, stands)| stands)
+}
+
+/// The word for what began or ended, after one blank.
+fn change(before: bool, now: bool, name: &str) -> String {
+    match (before, now) {
+        (false, true) => format!(" +{name}"),
+        (true, false) => format!(" -{name}"),
+        _ => String::new(),
     }
 }
 

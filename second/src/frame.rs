@@ -1,6 +1,7 @@
 //! One frame to be sent: overhead fields by name, and what comes with them.
 
-use crate::provisioning::{Provisioning, PATH, SECTION};
+use crate::level::{self, field};
+use crate::provisioning::{LevelProvisioning, Provisioning, PATH, SECTION};
 
 pub const FAS: [u8; 6] = [0xF6, 0xF6, 0xF6, 0x28, 0x28, 0x28];
 
@@ -17,6 +18,8 @@ pub struct Sent {
     pub ignored: u8,
     pub flags: u8,
     pub violations: [u8; 2],
+    /// Levels 1 to 6, each with its count.
+    pub levels: [level::Received; 6],
 }
 
 impl Sent {
@@ -32,6 +35,7 @@ impl Sent {
         ignored: 0,
         flags: 0,
         violations: [0; 2],
+        levels: [level::Received { tti: 0, bei: 0, bdi: false, stat: 0, violations: 0 }; 6],
     };
 
     /// Good framing and an MFAS, all else zero.
@@ -47,11 +51,25 @@ impl Sent {
         o[9] = self.bei[SECTION] << 4 | u8::from(self.bdi[SECTION]) << 3 | u8::from(self.iae) << 2 | self.ignored & 3;
         o[32 + 9] = self.tti[PATH];
         o[32 + 11] = self.bei[PATH] << 4 | u8::from(self.bdi[PATH]) << 3 | self.stat & 7;
+        for (number, l) in (1..).zip(&self.levels) {
+            o[field(number)] = l.tti;
+            o[field(number) + 2] = l.bei << 4 | u8::from(l.bdi) << 3 | l.stat & 7;
+        }
         o
+    }
+
+    /// The counts of levels 1 to 6.
+    pub fn counts(&self) -> [u8; 6] {
+        self.levels.map(|level| level.violations)
     }
 }
 
 /// The plainest provisioning: thresholds 1, two seconds, modes off, actions by default, names zero.
 pub fn plain(k: u8) -> Provisioning {
     Provisioning { k, degthr: [1; 2], degm: [2; 2], mode: [0; 2], dis: [0; 2], names: [[0; 32]; 2] }
+}
+
+/// The plainest level: threshold 1, two seconds, mode off, actions by default, names zero.
+pub fn plain_level() -> LevelProvisioning {
+    LevelProvisioning { degthr: 1, degm: 2, mode: 0, dis: 0, names: [0; 32] }
 }

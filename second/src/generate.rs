@@ -6,7 +6,8 @@ use crate::cover::{
     self, conditions, AIS, BIAE, IAE, LCK, LOF, LOM, OCI, OTU_AIS, P_BDI, P_DEG, P_TIM, S_BDI, S_DEG, S_TIM, TSF,
 };
 use crate::frame::{Sent, FAS};
-use crate::provisioning::{Provisioning, PATH, SECTION};
+use crate::level;
+use crate::provisioning::{LevelProvisioning, Provisioning, PATH, SECTION};
 use crate::random::Random;
 use crate::reader::Trace;
 use crate::supervisor::Supervisor;
@@ -20,6 +21,10 @@ pub enum Item {
 #[derive(Clone, Debug)]
 pub struct Generated {
     pub provisioning: Provisioning,
+    /// The provisioned levels, in the order of their records.
+    pub levels: Vec<(u8, LevelProvisioning)>,
+    /// Whether frames bring the levels' counts: kind 5.
+    pub counted: bool,
     pub items: Vec<Item>,
     /// The records; damaged in some traces.
     pub bytes: Vec<u8>,
@@ -48,7 +53,7 @@ pub fn trace(seed: u64, index: u64) -> Generated {
     if index > 0 && rng.once_in(3) {
         about += &damage(&mut rng, &mut bytes, index);
     }
-    Generated { provisioning, items, bytes, about }
+    Generated { provisioning, levels: Vec::new(), counted: false, items, bytes, about }
 }
 
 /// 400,000 frames and one too many.
@@ -58,7 +63,7 @@ fn full_second() -> (Provisioning, Vec<Item>, String) {
     (crate::frame::plain(1), items, "a full second".into())
 }
 
-fn names(rng: &mut Random) -> [u8; 32] {
+pub(crate) fn names(rng: &mut Random) -> [u8; 32] {
     let mut names = [0u8; 32];
     if !rng.once_in(8) {
         rng.fill(&mut names);
@@ -66,7 +71,7 @@ fn names(rng: &mut Random) -> [u8; 32] {
     names
 }
 
-fn provisioning(rng: &mut Random, k: u8) -> Provisioning {
+pub(crate) fn provisioning(rng: &mut Random, k: u8) -> Provisioning {
     let ceiling = [20_420, 82_025, 329_492][k as usize - 1];
     let thr = |rng: &mut Random| match rng.below(8) {
         0 => ceiling,
@@ -85,7 +90,7 @@ fn provisioning(rng: &mut Random, k: u8) -> Provisioning {
 }
 
 /// A trace that a layer expects, and some that differ from it in one byte.
-fn traces(rng: &mut Random, expected: &[u8; 32]) -> Vec<[u8; 64]> {
+pub(crate) fn traces(rng: &mut Random, expected: &[u8; 32]) -> Vec<[u8; 64]> {
     let mut right = [0u8; 64];
     rng.fill(&mut right);
     right[..32].copy_from_slice(expected);
@@ -99,7 +104,7 @@ fn traces(rng: &mut Random, expected: &[u8; 32]) -> Vec<[u8; 64]> {
 }
 
 /// A value that holds, flickers or wanders, each for its own number of frames.
-struct Wave {
+pub(crate) struct Wave {
     palette: Vec<u8>,
     quiet: u64,
     long: u64,
@@ -110,11 +115,11 @@ struct Wave {
 }
 
 impl Wave {
-    fn new(rng: &mut Random, palette: &[u8], long: u64) -> Wave {
+    pub(crate) fn new(rng: &mut Random, palette: &[u8], long: u64) -> Wave {
         let quiet = rng.pick(&[8, 60, 400, 3_000, 1_000_000]);
         Wave { palette: palette.to_vec(), quiet, long, left: 0, sort: 0, pair: [palette[0]; 2], period: 1 }
     }
-    fn next(&mut self, rng: &mut Random) -> u8 {
+    pub(crate) fn next(&mut self, rng: &mut Random) -> u8 {
         if self.left == 0 {
             self.sort = rng.below(8) as u8;
             self.pair = [rng.pick(&self.palette), rng.pick(&self.palette)];
@@ -230,7 +235,7 @@ impl Mfas {
 }
 
 /// Which of a layer's traces is sent.
-struct Tti {
+pub(crate) struct Tti {
     traces: Vec<[u8; 64]>,
     quiet: u64,
     which: usize,
@@ -238,7 +243,10 @@ struct Tti {
 }
 
 impl Tti {
-    fn next(&mut self, rng: &mut Random, number: u8) -> u8 {
+    pub(crate) fn new(rng: &mut Random, names: &[u8; 32]) -> Tti {
+        Tti { traces: traces(rng, names), quiet: rng.pick(&[300, 600, 2_000]), which: 0, left: rng.within(1, 500) }
+    }
+    pub(crate) fn next(&mut self, rng: &mut Random, number: u8) -> u8 {
         if self.left == 0 {
             self.which = if rng.once_in(2) { 0 } else { rng.below(self.traces.len() as u64) as usize };
             self.left = match rng.below(4) {
@@ -266,22 +274,22 @@ fn wander(rng: &mut Random) -> (Provisioning, Vec<Item>, String) {
         _ => rng.within(4_000, 8_000),
     };
     let frames = wandering(rng, &p, length);
-    let items = with_marks(rng, &p, &frames);
+    let items = with_marks(rng, &p, &[], &frames);
     (p, items, format!("signals that wander, k = {k}"))
 }
 
 /// Frames in which every signal wanders by itself.
 pub fn wandering(rng: &mut Random, p: &Provisioning, length: u64) -> Vec<Sent> {
+    wandering_counts(rng, p, length).into_iter().map(|(f, _)| f).collect()
+}
+
+/// The same, each with the count that its trace bytes go by: the MFAS, where it is not disturbed.
+pub(crate) fn wandering_counts(rng: &mut Random, p: &Provisioning, length: u64) -> Vec<(Sent, u8)> {
     let n = p.n();
     let quiet = |rng: &mut Random| rng.pick(&[20, 150, 900, 3 * n, 1_000_000]);
     let mut framing = Framing { n, quiet: quiet(rng), left: rng.below(50), bad: rng.once_in(4), losses: 0, style: 0 };
     let mut mfas = Mfas { n, quiet: quiet(rng), count: rng.byte(), left: rng.below(300), sort: 0, mask: 0 };
-    let mut tti = [SECTION, PATH].map(|layer| Tti {
-        traces: traces(rng, &p.names[layer]),
-        quiet: rng.pick(&[300, 600, 2_000]),
-        which: 0,
-        left: rng.within(1, 500),
-    });
+    let mut tti = [SECTION, PATH].map(|layer| Tti::new(rng, &p.names[layer]));
     let mut flags = Wave::new(rng, &[0, 0, 1, 2, 3], 2 * n);
     if rng.once_in(2) {
         flags.quiet = 1_000_000;
@@ -305,7 +313,7 @@ pub fn wandering(rng: &mut Random, p: &Provisioning, length: u64) -> Vec<Sent> {
     (0..length)
         .map(|_| {
             let m = mfas.next(rng);
-            Sent {
+            let sent = Sent {
                 fas: framing.next(rng),
                 mfas: m,
                 tti: [tti[0].next(rng, mfas.count), tti[1].next(rng, mfas.count)],
@@ -316,22 +324,32 @@ pub fn wandering(rng: &mut Random, p: &Provisioning, length: u64) -> Vec<Sent> {
                 ignored: rng.byte(),
                 flags: flags.next(rng),
                 violations: [counts[0].next(rng), counts[1].next(rng)],
-            }
+                ..Sent::ZEROS
+            };
+            (sent, mfas.count)
         })
         .collect()
 }
 
+/// The conditions that stand after the last frame, and what stands of each level.
+fn standing(s: &Supervisor) -> ([bool; 15], [Option<level::Standing>; 6]) {
+    (conditions(&s.standing()), std::array::from_fn(|i| s.level(i as u8 + 1).map(|level| level.standing())))
+}
+
 /// Marks at random, and right before some of the frames in which something changes.
-fn with_marks(rng: &mut Random, p: &Provisioning, frames: &[Sent]) -> Vec<Item> {
+pub(crate) fn with_marks(rng: &mut Random, p: &Provisioning, levels: &[(u8, LevelProvisioning)], frames: &[Sent]) -> Vec<Item> {
     let mean = rng.pick(&[8, 40, 150, 600, 3_000]);
     let eager = rng.pick(&[2, 4, 16, 1_000]);
     let mut s = Supervisor::fresh(p.clone());
+    for (level, p) in levels {
+        s.provision(*level, p.clone());
+    }
     let mut items = Vec::with_capacity(frames.len() + 64);
-    let mut before = s.standing();
+    let mut before = standing(&s);
     for f in frames {
-        s.step(&f.overhead(), f.flags, f.violations[0], f.violations[1]).expect("the frame is in range");
-        let after = s.standing();
-        if (conditions(&before) != conditions(&after) && rng.once_in(eager)) || rng.once_in(mean) {
+        s.step_levels(&f.overhead(), f.flags, f.violations[0], f.violations[1], f.counts()).expect("the frame is in range");
+        let after = standing(&s);
+        if (before != after && rng.once_in(eager)) || rng.once_in(mean) {
             for _ in 0..if rng.once_in(20) { rng.within(1, 11) } else { 1 } {
                 items.push(Item::Mark);
             }

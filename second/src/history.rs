@@ -79,35 +79,36 @@ impl Standing {
     }
 }
 
+/// What a frame brought and what stood after it: of line, section and path, or of one tandem level.
 #[derive(Clone, Copy, Debug)]
-pub struct Frame {
-    pub received: Received,
-    pub standing: Standing,
+pub struct Frame<R, S> {
+    pub received: R,
+    pub standing: S,
 }
 
 /// Frames by number, counted from 1. The oldest are dropped when they can no longer be asked for.
 #[derive(Clone, Debug, Default)]
-pub struct History {
-    frames: VecDeque<Frame>,
+pub struct History<R, S> {
+    frames: VecDeque<Frame<R, S>>,
     dropped: u64,
 }
 
-impl History {
+impl<R, S: Default> History<R, S> {
     pub fn last(&self) -> u64 {
         self.dropped + self.frames.len() as u64
     }
-    pub fn record(&mut self, received: Received) -> u64 {
-        self.frames.push_back(Frame { received, standing: Standing::default() });
+    pub fn record(&mut self, received: R) -> u64 {
+        self.frames.push_back(Frame { received, standing: S::default() });
         self.last()
     }
-    pub fn at(&self, number: u64) -> &Frame {
+    pub fn at(&self, number: u64) -> &Frame<R, S> {
         &self.frames[(number - self.dropped - 1) as usize]
     }
-    pub fn standing_mut(&mut self, number: u64) -> &mut Standing {
+    pub fn standing_mut(&mut self, number: u64) -> &mut S {
         let i = (number - self.dropped - 1) as usize;
         &mut self.frames[i].standing
     }
-    pub fn after(&self, number: u64) -> impl Iterator<Item = &Frame> {
+    pub fn after(&self, number: u64) -> impl Iterator<Item = &Frame<R, S>> {
         self.frames.iter().skip((number - self.dropped) as usize)
     }
     pub fn forget_before_last(&mut self, kept: usize) {
@@ -155,4 +156,41 @@ pub fn latest_value(
         end -= 1;
     }
     None
+}
+
+/// The three cycles that end in frame `now`, where they are whole, in IM, since the last forgetting, and alike. `s` is what stands in
+/// that frame after alignment, `tti(u)` the byte that frame `u` brought.
+pub fn three_cycles(s: &Standing, now: u64, forgotten: u64, tti: impl Fn(u64) -> u8) -> Option<[u8; 64]> {
+    if s.local(now)? % 64 != 63 || now < forgotten + 192 || s.entered?.0 + 191 > now {
+        return None;
+    }
+    let cycle = |end: u64| -> [u8; 64] { std::array::from_fn(|i| tti(end - 63 + i as u64)) };
+    let last = cycle(now);
+    (cycle(now - 64) == last && cycle(now - 128) == last).then_some(last)
+}
+
+/// Seconds closed so far: was it bad, and what dDEG became. The oldest are dropped when they can no longer be asked for.
+#[derive(Clone, Debug, Default)]
+pub struct Seconds {
+    record: VecDeque<(bool, bool)>,
+    dropped: u64,
+}
+
+impl Seconds {
+    /// dDEG: the latest DEGM closed seconds in a row that were all bad or all not.
+    pub fn ddeg(&self, degm: u8) -> bool {
+        let at = |u: u64| &self.record[(u - self.dropped - 1) as usize];
+        let last = self.dropped + self.record.len() as u64;
+        latest_row(last, 0, u64::from(degm), |u| at(u).0, |u| at(u).1)
+    }
+
+    pub fn close(&mut self, bad: bool, degm: u8) {
+        self.record.push_back((bad, false));
+        let became = self.ddeg(degm);
+        self.record.back_mut().unwrap().1 = became;
+        if self.record.len() as u64 > 2 * WINDOW {
+            self.record.pop_front();
+            self.dropped += 1;
+        }
+    }
 }

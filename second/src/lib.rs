@@ -4,6 +4,9 @@
 //! frame, and each state is found by looking back over the record: the latest row of five alike since the last forgetting, the
 //! three cycles that end here, the OOF frames with no long IF stretch between them. A look-back stops after a window of frames and
 //! takes up the answer recorded there, which is the same question put to the same history.
+//!
+//! Request K1, six tandem levels, is written behind the feature `levels`. Without it records of kinds 4 and 5 are unknown and
+//! otn_mark's record has twenty figures.
 
 pub mod card;
 pub mod cases;
@@ -12,6 +15,9 @@ pub mod explain;
 pub mod frame;
 pub mod generate;
 pub mod history;
+pub mod level;
+pub mod level_cover;
+pub mod level_generate;
 pub mod listing;
 pub mod provisioning;
 pub mod random;
@@ -19,5 +25,11 @@ pub mod reader;
 pub mod report;
 pub mod supervisor;
 
+/// Whether tandem levels are known.
+pub const WITH_LEVELS: bool = cfg!(feature = "levels");
+
 #[cfg(test)]
 mod tests;
+
+#[cfg(all(test, feature = "levels"))]
+mod tests_levels;

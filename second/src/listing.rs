@@ -2,8 +2,10 @@
 
 use crate::supervisor::Second;
 
+/// "Each S line gains the four figures of every provisioned level, lowest level first" (K1).
 pub fn second(second: &Second) -> String {
-    let figures: Vec<String> = second.iter().map(u32::to_string).collect();
+    let levels = second.levels.iter().flatten().flatten();
+    let figures: Vec<String> = second.figures.iter().chain(levels).map(u32::to_string).collect();
     format!("S {}\n", figures.join(" "))
 }
 

@@ -1,14 +1,24 @@
 //! Trace records, the scan, and the listing of a whole trace.
 
 use crate::listing;
-use crate::provisioning::Provisioning;
+use crate::provisioning::{LevelProvisioning, Provisioning};
 use crate::supervisor::Supervisor;
+use crate::WITH_LEVELS;
 
 #[derive(Clone, Debug, PartialEq, Eq)]
 pub enum Record<'a> {
-    Frame { overhead: &'a [u8], flags: u8, sm: u8, pm: u8 },
+    /// Kind 1, whose levels' counts are 0, or kind 5.
+    Frame {
+        kind: u16,
+        overhead: &'a [u8],
+        flags: u8,
+        sm: u8,
+        pm: u8,
+        counts: [u8; 6],
+    },
     Mark,
     Provisioning(&'a [u8]),
+    Level(&'a [u8]),
 }
 
 /// The record at the head of `rest` and the bytes it takes; or 14, 15, 14 in that order.
@@ -20,6 +30,7 @@ pub fn record(rest: &[u8]) -> Result<(Record<'_>, usize), u8> {
     let kind = u16::from_le_bytes([rest[2], rest[3]]);
     match (kind, length) {
         (1, 69) | (2, 2) | (3, 81) => {}
+        (4, 42) | (5, 75) if WITH_LEVELS => {}
         _ => return Err(15),
     }
     let whole = length + 2;
@@ -28,9 +39,14 @@ pub fn record(rest: &[u8]) -> Result<(Record<'_>, usize), u8> {
     }
     let body = &rest[4..whole];
     let record = match kind {
-        1 => Record::Frame { overhead: &body[..64], flags: body[64], sm: body[65], pm: body[66] },
+        1 | 5 => {
+            let mut counts = [0; 6];
+            counts[..body.len() - 67].copy_from_slice(&body[67..]);
+            Record::Frame { kind, overhead: &body[..64], flags: body[64], sm: body[65], pm: body[66], counts }
+        }
         2 => Record::Mark,
-        _ => Record::Provisioning(body),
+        3 => Record::Provisioning(body),
+        _ => Record::Level(body),
     };
     Ok((record, whole))
 }
@@ -48,60 +64,85 @@ pub fn provisioning(body: &[u8]) -> Result<Provisioning, u8> {
     )
 }
 
+/// A level's body of 40 bytes: 16 after a frame or mark, 18 for no level or one given twice, then 6 to 9 by the trace's k.
+fn level(supervisor: &mut Supervisor, body: &[u8]) -> Result<(), u8> {
+    if supervisor.begun() {
+        return Err(16);
+    }
+    let level = body[0];
+    if !supervisor.takes(level) {
+        return Err(18);
+    }
+    let thr = u32::from_le_bytes([body[1], body[2], body[3], body[4]]);
+    let p = LevelProvisioning::of(supervisor.provisioning.k, thr, body[5], body[6], body[7], &body[8..40])?;
+    supervisor.provision(level, p);
+    Ok(())
+}
+
 /// The listing of a whole trace.
 pub fn list(trace: &[u8]) -> String {
     told(trace, |_, _| String::new())
+}
+
+/// A scan: what the records accepted so far have made.
+#[derive(Default)]
+struct Scan {
+    supervisor: Option<Supervisor>,
+    /// "a trace uses kind 1 or kind 5 and not both": the kind of the frames accepted.
+    frame_kind: Option<u16>,
+    marks: u64,
+    frames: u64,
+}
+
+impl Scan {
+    /// One record: what is printed of it, or its refusal: 16, then 18 and 19, then the rest.
+    fn take(&mut self, record: Record, mut tell: impl FnMut(&Supervisor, u64) -> String) -> Result<String, u8> {
+        let Some(s) = &mut self.supervisor else {
+            let Record::Provisioning(body) = record else { return Err(16) };
+            self.supervisor = Some(Supervisor::fresh(provisioning(body)?));
+            return Ok(String::new());
+        };
+        match record {
+            Record::Provisioning(_) => Err(16),
+            Record::Level(body) => level(s, body).map(|()| String::new()),
+            Record::Mark => {
+                let second = s.mark()?;
+                self.marks += 1;
+                Ok(listing::second(&second))
+            }
+            Record::Frame { kind, overhead, flags, sm, pm, counts } => {
+                if self.frame_kind.is_some_and(|used| used != kind) {
+                    return Err(19);
+                }
+                s.step_levels(overhead, flags, sm, pm, counts)?;
+                self.frame_kind = Some(kind);
+                self.frames += 1;
+                Ok(tell(s, self.frames))
+            }
+        }
+    }
 }
 
 /// The listing of a whole trace, and among its lines what `tell` says after each frame accepted: of the supervisor then, and of the
 /// frame's number in the trace.
 pub fn told(trace: &[u8], mut tell: impl FnMut(&Supervisor, u64) -> String) -> String {
     let mut out = String::new();
-    let mut supervisor: Option<Supervisor> = None;
-    let (mut offset, mut marks, mut frames) = (0usize, 0u64, 0u64);
+    let mut scan = Scan::default();
+    let mut offset = 0;
     while offset < trace.len() {
-        let refused = match record(&trace[offset..]) {
-            Err(number) => Some(number),
-            Ok((read, taken)) => {
-                let refused = match (read, &mut supervisor) {
-                    (Record::Provisioning(body), None) => match provisioning(body) {
-                        Ok(p) => {
-                            supervisor = Some(Supervisor::fresh(p));
-                            None
-                        }
-                        Err(number) => Some(number),
-                    },
-                    (Record::Provisioning(_), Some(_)) | (_, None) => Some(16),
-                    (Record::Mark, Some(s)) => match s.mark() {
-                        Ok(second) => {
-                            out.push_str(&listing::second(&second));
-                            marks += 1;
-                            None
-                        }
-                        Err(number) => Some(number),
-                    },
-                    (Record::Frame { overhead, flags, sm, pm }, Some(s)) => match s.step(overhead, flags, sm, pm) {
-                        Ok(_) => {
-                            frames += 1;
-                            out.push_str(&tell(s, frames));
-                            None
-                        }
-                        Err(number) => Some(number),
-                    },
-                };
-                if refused.is_none() {
-                    offset += taken;
-                }
-                refused
+        let taken = record(&trace[offset..]).and_then(|(record, bytes)| Ok((scan.take(record, &mut tell)?, bytes)));
+        match taken {
+            Ok((text, bytes)) => {
+                out += &text;
+                offset += bytes;
             }
-        };
-        if let Some(number) = refused {
-            out.push_str(&listing::refusal(number, offset as u64));
-            break;
+            Err(number) => {
+                out += &listing::refusal(number, offset as u64);
+                break;
+            }
         }
     }
-    out.push_str(&listing::end(marks, frames));
-    out
+    out + &listing::end(scan.marks, scan.frames)
 }
 
 /// A trace under construction.
@@ -124,5 +165,16 @@ impl Trace {
     }
     pub fn mark(&mut self) {
         self.record(2, &[]);
+    }
+    /// A kind 4 record.
+    pub fn level(&mut self, level: u8, p: &LevelProvisioning) {
+        self.record(4, &p.body(level));
+    }
+    /// A kind 5 record.
+    pub fn frame_levels(&mut self, overhead: &[u8; 64], flags: u8, sm: u8, pm: u8, counts: [u8; 6]) {
+        let mut body = overhead.to_vec();
+        body.extend([flags, sm, pm]);
+        body.extend(counts);
+        self.record(5, &body);
     }
 }

@@ -1,6 +1,7 @@
-//! Heads, actions and causes, and the word that otn_step answers.
+//! Heads, actions and causes, and the words that otn_step and otn_level_report answer.
 
 use crate::history::Standing;
+use crate::level;
 use crate::provisioning::{PATH, SECTION};
 
 /// The first head that fits.
@@ -61,6 +62,36 @@ pub fn word(s: &Standing, violations: &[u8; 2]) -> u64 {
         word |= u64::from(stands) << place;
     }
     word | u64::from(violations[SECTION]) << 33 | u64::from(violations[PATH]) << 40
+}
+
+/// Each bit of a level by its name, with where it stands. Actions are aTSF and aTSD alone.
+pub fn level_bits(s: &level::Standing) -> [(u32, &'static str, bool); 19] {
+    [
+        (9, "SSF", s.ssf),
+        (10, "dLTC", s.dltc()),
+        (11, "dAIS", s.dais()),
+        (12, "dOCI", s.doci()),
+        (13, "dLCK", s.dlck()),
+        (14, "dTIM", s.dtim),
+        (15, "dBDI", s.dbdi),
+        (16, "dIAE", s.diae()),
+        (17, "dBIAE", s.dbiae),
+        (18, "dDEG", s.ddeg),
+        (19, "aTSF", s.ssf || s.dais() || s.dltc() || s.doci() || s.dlck() || s.acting),
+        (20, "aTSD", s.ddeg),
+        (21, "cSSF", s.ssf || s.dais()),
+        (22, "cLTC", s.dltc() && !s.ssf),
+        (23, "cOCI", s.doci() && !s.ssf),
+        (24, "cLCK", s.dlck() && !s.ssf),
+        (25, "cTIM", s.dtim && !s.silent()),
+        (26, "cDEG", s.ddeg && !s.silent() && !s.acting),
+        (27, "cBDI", s.dbdi && !s.silent() && !s.acting),
+    ]
+}
+
+/// The report of a level that is provisioned, which bit 8 says.
+pub fn level_word(s: &level::Standing) -> u64 {
+    level_bits(s).iter().fold(1 << 8, |word, (place, _, stands)| word | u64::from(*stands) << place)
 }
 
 /// The names of what differs between two words, for a message.

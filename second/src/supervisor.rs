@@ -1,19 +1,24 @@
-//! The supervisor: each rule of document 01 as a question to the history.
+//! The supervisor: each rule of document 01 as a question to the history. The tandem levels stand beside it, in `level.rs`.
 
-use crate::history::{latest_row, latest_value, History, Received, Standing, KEPT, WINDOW};
-use crate::provisioning::{Provisioning, PATH, SECTION};
+use crate::history::{latest_row, latest_value, three_cycles, History, Received, Seconds, Standing, KEPT, WINDOW};
+use crate::level::{self, Level};
+use crate::provisioning::{LevelProvisioning, Provisioning, PATH, SECTION};
 use crate::report;
 use std::collections::VecDeque;
 
 pub const FULL_SECOND: u64 = 400_000;
 
-/// A closed second: the twenty figures of an S line.
-pub type Second = [u32; 20];
+/// A closed second: the twenty figures of line, section and path, and the four of each level that is provisioned.
+#[derive(Clone, Copy, Debug, PartialEq, Eq)]
+pub struct Second {
+    pub figures: [u32; 20],
+    pub levels: [Option<[u32; 4]>; 6],
+}
 
 #[derive(Clone, Debug)]
 pub struct Supervisor {
     pub provisioning: Provisioning,
-    history: History,
+    history: History<Received, Standing>,
     /// OOF frames with fewer than N IF frames between one and the next; the last N of them are enough.
     oof: VecDeque<u64>,
     /// The last frame in IM, 0 without.
@@ -27,12 +32,12 @@ pub struct Supervisor {
     stat_forgotten: u64,
     /// The latest acceptance and the frame it fell in.
     accepted: [Option<(u64, [u8; 64])>; 2],
-    /// Seconds closed so far: was it bad, and what dDEG became.
-    seconds: [VecDeque<(bool, bool)>; 2],
-    seconds_dropped: u64,
+    seconds: [Seconds; 2],
     closed: u64,
     /// The last frame of the last closed second.
     second_began_after: u64,
+    /// "A level is monitored only if provisioned" (K1).
+    levels: [Option<Level>; 6],
 }
 
 impl Supervisor {
@@ -48,11 +53,31 @@ impl Supervisor {
             iae_forgotten: 0,
             stat_forgotten: 0,
             accepted: [None, None],
-            seconds: [VecDeque::new(), VecDeque::new()],
-            seconds_dropped: 0,
+            seconds: Default::default(),
             closed: 0,
             second_began_after: 0,
+            levels: Default::default(),
         }
+    }
+
+    /// Whether a frame or a mark was accepted: no level is provisioned after that.
+    pub fn begun(&self) -> bool {
+        self.closed > 0 || self.history.last() > 0
+    }
+
+    /// Whether this is a level, 1 to 6, that is not given yet.
+    pub fn takes(&self, level: u8) -> bool {
+        (1..=6).contains(&level) && self.level(level).is_none()
+    }
+
+    /// From here on the level is monitored. It is one that `takes` knows, and nothing was accepted yet.
+    pub fn provision(&mut self, level: u8, provisioning: LevelProvisioning) {
+        self.levels[usize::from(level) - 1] = Some(Level::fresh(provisioning));
+    }
+
+    /// A level, if it is one and is provisioned.
+    pub fn level(&self, level: u8) -> Option<&Level> {
+        self.levels.get(usize::from(level).wrapping_sub(1))?.as_ref()
     }
 
     /// A supervisor that has closed so many seconds more, all of them empty: for refusal 4, which no trace can reach in time.
@@ -76,15 +101,21 @@ impl Supervisor {
         }
     }
 
-    /// One frame: its report, or refusal 1 to 4.
+    /// One frame whose levels' counts are 0: its report, or refusal 1 to 4.
     pub fn step(&mut self, overhead: &[u8], flags: u8, sm: u8, pm: u8) -> Result<u64, u8> {
+        self.step_levels(overhead, flags, sm, pm, [0; 6])
+    }
+
+    /// One frame with the counts of levels 1 to 6: its report, or refusal 1 to 4. A count is refused whether or not its level is
+    /// provisioned.
+    pub fn step_levels(&mut self, overhead: &[u8], flags: u8, sm: u8, pm: u8, counts: [u8; 6]) -> Result<u64, u8> {
         if overhead.len() != 64 {
             return Err(1);
         }
         if flags > 3 {
             return Err(2);
         }
-        if sm > 8 || pm > 8 {
+        if sm > 8 || pm > 8 || counts.iter().any(|count| *count > 8) {
             return Err(3);
         }
         if self.open_frames() == FULL_SECOND {
@@ -102,8 +133,13 @@ impl Supervisor {
         self.section(now, &mut s);
         *self.history.standing_mut(now) = s;
         self.path(now, &mut s);
-        s.ddeg = [self.ddeg(SECTION), self.ddeg(PATH)];
+        s.ddeg = [SECTION, PATH].map(|layer| self.seconds[layer].ddeg(self.provisioning.degm[layer]));
         *self.history.standing_mut(now) = s;
+        for (number, level) in (1..).zip(&mut self.levels) {
+            if let Some(level) = level {
+                level.step(&s, level::Received::of(number, overhead, counts[usize::from(number) - 1]));
+            }
+        }
         Ok(report::word(&s, &received.violations))
     }
 
@@ -221,20 +257,10 @@ impl Supervisor {
         latest_row(now, self.bdi_forgotten[layer], 5, bit, |u| h.at(u).standing.dbdi[layer])
     }
 
-    /// The three cycles that end in this frame, where they are whole, in IM, since the last forgetting, and alike.
-    fn three_cycles(&self, layer: usize, now: u64) -> Option<[u8; 64]> {
-        let h = &self.history;
-        let s = h.at(now).standing;
-        if s.local(now)? % 64 != 63 || now < self.trace_forgotten[layer] + 192 || s.entered?.0 + 191 > now {
-            return None;
-        }
-        let cycle = |end: u64| -> [u8; 64] { std::array::from_fn(|i| h.at(end - 63 + i as u64).received.tti[layer]) };
-        let last = cycle(now);
-        (cycle(now - 64) == last && cycle(now - 128) == last).then_some(last)
-    }
-
     fn dtim(&mut self, layer: usize, now: u64) -> bool {
-        if let Some(trace) = self.three_cycles(layer, now) {
+        let h = &self.history;
+        let tti = |u: u64| h.at(u).received.tti[layer];
+        if let Some(trace) = three_cycles(&h.at(now).standing, now, self.trace_forgotten[layer], tti) {
             self.accepted[layer] = Some((now, trace));
         }
         self.accepted_trace(layer).is_some_and(|trace| self.provisioning.differs(layer, trace))
@@ -248,21 +274,13 @@ impl Supervisor {
         }
     }
 
-    /// dDEG: the latest DEGM closed seconds in a row that were all bad or all not.
-    fn ddeg(&self, layer: usize) -> bool {
-        let record = &self.seconds[layer];
-        let at = |u: u64| &record[(u - self.seconds_dropped - 1) as usize];
-        let last = self.seconds_dropped + record.len() as u64;
-        latest_row(last, 0, u64::from(self.provisioning.degm[layer]), |u| at(u).0, |u| at(u).1)
-    }
-
     /// A mark: the closed second, or refusal 4.
     pub fn mark(&mut self) -> Result<Second, u8> {
         if self.closed == u64::from(u32::MAX) {
             return Err(4);
         }
         self.closed += 1;
-        let mut second: Second = [0; 20];
+        let mut second = [0; 20];
         second[0] = self.closed as u32;
         second[1] = self.open_frames() as u32;
         let (mut iae, mut biae) = (false, false);
@@ -290,19 +308,12 @@ impl Supervisor {
         for layer in [SECTION, PATH] {
             let four = [near[layer], far[layer], u32::from(near_ds[layer]), u32::from(far_ds[layer])];
             second[12 + 4 * layer..16 + 4 * layer].copy_from_slice(&four);
-            let bad = near[layer] >= self.provisioning.degthr[layer];
-            self.seconds[layer].push_back((bad, false));
-            let became = self.ddeg(layer);
-            self.seconds[layer].back_mut().unwrap().1 = became;
+            self.seconds[layer].close(near[layer] >= self.provisioning.degthr[layer], self.provisioning.degm[layer]);
         }
-        if self.seconds[SECTION].len() as u64 > 2 * WINDOW {
-            self.seconds[SECTION].pop_front();
-            self.seconds[PATH].pop_front();
-            self.seconds_dropped += 1;
-        }
+        let levels = self.levels.each_mut().map(|level| level.as_mut().map(|level| level.close(self.second_began_after)));
         self.second_began_after = self.history.last();
         self.history.forget_before_last(KEPT);
-        Ok(second)
+        Ok(Second { figures: second, levels })
     }
 
     /// The accepted trace of a layer for a lent buffer of `room` bytes, or refusal 11 to 13.
@@ -314,5 +325,23 @@ impl Supervisor {
             return Err(12);
         }
         self.accepted_trace(layer as usize).copied().ok_or(13)
+    }
+
+    /// The accepted trace of a level for a lent buffer of `room` bytes, or refusal 12 or 13. What is no level, or is not provisioned,
+    /// has none.
+    pub fn level_trace(&self, level: u8, room: usize) -> Result<[u8; 64], u8> {
+        if room != 64 {
+            return Err(12);
+        }
+        self.level(level).and_then(Level::accepted_trace).copied().ok_or(13)
+    }
+
+    /// What stands of a level after the last frame and mark, as otn_level_report answers it, or refusal 18. A level that is not
+    /// provisioned answers 0.
+    pub fn level_report(&self, level: u8) -> Result<u64, u8> {
+        if !(1..=6).contains(&level) {
+            return Err(18);
+        }
+        Ok(self.level(level).map_or(0, |level| report::level_word(&level.standing())))
     }
 }

@@ -34,11 +34,11 @@ fn parts(text: &str) -> (Vec<u8>, Vec<Part>) {
         let (next, taken) = record(&bytes[at..]).unwrap();
         at += taken;
         parts.push(match next {
-            Record::Frame { overhead, flags, sm, pm } => {
+            Record::Frame { overhead, flags, sm, pm, .. } => {
                 Part::Frame { overhead: overhead.try_into().unwrap(), with: [flags, sm, pm] }
             }
             Record::Mark => Part::Mark,
-            Record::Provisioning(_) => panic!("a second provisioning"),
+            Record::Provisioning(_) | Record::Level(_) => panic!("a second provisioning"),
         });
     }
     (body.to_vec(), parts)

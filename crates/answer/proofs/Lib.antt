@@ -2,6 +2,7 @@ pub mod Bits
 pub mod Cond
 pub mod Checks
 pub mod Copies
+pub mod Each
 pub mod Every
 pub mod Refuted
 pub mod Unique

@@ -1,4 +1,5 @@
 pub mod Answer
 pub mod Bits
 pub mod Checks
+pub mod Each
 pub mod Over

@@ -203,7 +203,7 @@ at-most-at n [] i x h a = tt
 at-most-at n (y ∷ l) zero x h a = (h, a .1)
 at-most-at n (y ∷ l) (suc i) x h a = (a .0, at-most-at n l i x h (a .1))
 
-blocks-in : (b : Blocks) (s : Shows) → BlocksIn b → BlocksIn (blocksOf b s)
+pub blocks-in : (b : Blocks) (s : Shows) → BlocksIn b → BlocksIn (blocksOf b s)
 unfolding blocksOf nearOf farOf
 blocks-in b s i = record {
   near = by-cond (λ (x : Near). x .0 ≤ 400000) (s .near && _) (λ _. up-most (b .near .0) 400000) (λ _. i .near);
@@ -256,7 +256,7 @@ fresh-second-in = record {
   path = record { near = omega arith; far = omega arith };
 }
 
-degraded-in : (l : Layer) (p : Options) (near : ℕ) → p .degm ≤ 10 → LayerIn l → LayerIn (degraded l p near)
+pub degraded-in : (l : Layer) (p : Options) (near : ℕ) → p .degm ≤ 10 → LayerIn l → LayerIn (degraded l p near)
 degraded-in l p near h i = record {
   equal = i .equal;
   bdi = i .bdi;

@@ -53,7 +53,7 @@ pub record Sounds (l : List ℕ) : Type 0 where
   pub section : Layered sectionGreatest (bytesIn 64 112 l)
   pub path : Layered pathGreatest (bytesIn 64 400 l)
 
-layered : (g w : List ℕ) → layerRanged g w ≡ true → Layered g w
+pub layered : (g w : List ℕ) → layerRanged g w ≡ true → Layered g w
 unfolding layerRanged
 layered g w e =
     let a = below g w in
@@ -198,7 +198,7 @@ module _ (o : ℕ) (st l : List ℕ) (h : o + 288 ≤ length l) (e : below (fron
   pub state-tops-at : Tops st (bytesIn 32 32 (bytesIn 288 o l))
   state-tops-at = rw (second-strip o 288 l h (omega arith)) (below-all st (drop 32 (bytesIn 64 o l)) (below-rest frontGreatest st (bytesIn 64 o l) e))
 
-  held-stays-at : below stateTop st ≡ true → heldBytes (heldIn (bytesIn 288 o l)) ≡ bytesIn 288 o l
+  pub held-stays-at : below stateTop st ≡ true → heldBytes (heldIn (bytesIn 288 o l)) ≡ bytesIn 288 o l
   held-stays-at t =
       let r : List ℕ = bytesIn 288 o l in
       held-stays r (length-in 288 o l) front-wide (wider stateTop st (bytesIn 32 32 r) t state-tops-at)

@@ -51,7 +51,7 @@ byte-front x w k e h = ap (λ (y : List ℕ). getD y k 0) e ∙ getD-take 32 w k
 
 -- a layer's record at a place, whatever its state's table is
 module _ (o : ℕ) (st l : List ℕ) (h : o + 288 ≤ length l) (t : Layered (frontGreatest ++ st) (bytesIn 64 o l)) where
-  options-at : OptionsIn (optionsFrom (heldIn (bytesIn 288 o l)))
+  pub options-at : OptionsIn (optionsFrom (heldIn (bytesIn 288 o l)))
   unfolding heldIn
   options-at =
       let x : List ℕ = bytesIn 32 0 (bytesIn 288 o l) in
@@ -67,7 +67,7 @@ module _ (o : ℕ) (st l : List ℕ) (h : o + 288 ≤ length l) (t : Layered (fr
         names = length-in 32 256 (bytesIn 288 o l);
       }
 
-  layer-at : getD st 2 0 ≡ 3 → getD st 4 0 ≡ 4 → LayerIn (layerFrom (heldIn (bytesIn 288 o l)))
+  pub layer-at : getD st 2 0 ≡ 3 → getD st 4 0 ≡ 4 → LayerIn (layerFrom (heldIn (bytesIn 288 o l)))
   unfolding heldIn
   layer-at p q =
       let r : List ℕ = bytesIn 288 o l in
@@ -82,7 +82,7 @@ module _ (o : ℕ) (st l : List ℕ) (h : o + 288 ≤ length l) (t : Layered (fr
         previous = length-in 64 192 r;
       }
 
-  blocks-at : BlocksIn (heldIn (bytesIn 288 o l) .state .blocks)
+  pub blocks-at : BlocksIn (heldIn (bytesIn 288 o l) .state .blocks)
   unfolding heldIn
   blocks-at =
       let x : List ℕ = bytesIn 32 32 (bytesIn 288 o l) in
@@ -213,7 +213,7 @@ line-tested h a c k m i t =
       le-leb (a .lom) 989 (i .lom),
     ) t
 
-layer-tested : (p : Options) (l : Layer) (t : State) (st : List ℕ) → OptionsIn p → LayerIn l → BlocksIn (t .blocks) → below st (stateBytes t) ≡ true
+pub layer-tested : (p : Options) (l : Layer) (t : State) (st : List ℕ) → OptionsIn p → LayerIn l → BlocksIn (t .blocks) → below st (stateBytes t) ≡ true
     → layerRanged (frontGreatest ++ st) (frontBytes (heldWith p l t .front) ++ stateBytes t) ≡ true
 unfolding layerRanged
 layer-tested p l t st i j b e =
@@ -267,7 +267,7 @@ joined-parts : (s : Supervisor) → joined (partsOf s) ≡ bytesOf s
 unfolding bytesOf
 joined-parts s = simp append-nil
 
-band-of : (a b r : List ℕ) → length a ≡ 32 → length b ≡ 32 → bytesIn 64 0 (a ++ (b ++ r)) ≡ a ++ b
+pub band-of : (a b r : List ℕ) → length a ≡ 32 → length b ≡ 32 → bytesIn 64 0 (a ++ (b ++ r)) ≡ a ++ b
 band-of a b r h k =
     let n : length (a ++ b) ≡ 64 = simp length-append (omega arith) in
     ap (bytesIn 64 0) (sym (append-assoc a b r))

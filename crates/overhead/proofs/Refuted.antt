@@ -10,10 +10,13 @@ use denote.Triple.Clauses.{AtExit}
 use denote.Ref.{now}
 use lib.ListN.{replicate}
 use Rattle.answer.specs.Answer.{NoAnswer}
+use Rattle.overhead.specs.declared.Field.{Field}
 use Rattle.overhead.specs.declared.Overhead.{Overhead}
-use Rattle.overhead.specs.Overhead.{threeOf, fourOf, fieldOf, overheadOf, farBlock}
+use Rattle.overhead.specs.Overhead.{threeOf, fourOf, fieldOf, overheadOf, levelField, farBlock}
 use Rattle.overhead.proofs.overhead_of.Kinds as overhead-kinds
 use Rattle.overhead.proofs.overhead_of.Reads as overhead-reads
+use Rattle.overhead.proofs.level_field.Kinds as level-kinds
+use Rattle.overhead.proofs.level_field.Reads as level-reads
 use Rattle.overhead.proofs.far_block.Kinds as far-kinds
 use Rattle.overhead.proofs.far_block.Reads as far-reads
 
@@ -59,3 +62,28 @@ module _ (κs : Lfts 1) (a : Dens κs overhead-kinds.ps) (s : AtExit (endedOf 1 
   pub stat-two-bits : now (a .0) ≡ replicate 43 0 ++ (7 ∷ []) → x .path .stat ≡ 3 → ⊥
   unfolding overheadOf fieldOf
   stat-two-bits b w = let h : _≡_ {A = ℕ} 3 7 = sym w ∙ ap (λ (o : Overhead). o .path .stat) (shows _ b) in omega arith
+
+-- what they show of a tandem level
+module _ (κs : Lfts 1) (a : Dens κs level-kinds.ps) (s : AtExit (endedOf 1 level-kinds.ps level-kinds.r) κs) (x : Field) (e : level-reads.Post κs a x s) where
+  shows-at : (bytes : List ℕ) (level : ℕ) → now (a .0) ≡ bytes → a .1 .0 ≡ level → x ≡ levelField bytes level
+  shows-at bytes level b l = e ∙ ap (λ (o : List ℕ). levelField o (a .1 .0)) b ∙ ap (levelField bytes) l
+
+  -- TCM2 is not read from TCM3's columns
+  pub two-for-three : now (a .0) ≡ replicate 32 0 ++ (9 ∷ []) → a .1 .0 ≡ 2 → x .tti ≡ 9 → ⊥
+  unfolding levelField fieldOf
+  two-for-three b l w = let h : _≡_ {A = ℕ} 9 0 = sym w ∙ ap (λ (f : Field). f .tti) (shows-at _ 2 b l) in omega arith
+
+  -- TCM4 to TCM6 do not go on where TCM3 leaves off: TCM4 is row 2 column 11, and not three columns before TCM3
+  pub four-after-three : now (a .0) ≡ replicate 29 0 ++ (9 ∷ []) → a .1 .0 ≡ 4 → x .tti ≡ 9 → ⊥
+  unfolding levelField fieldOf
+  four-after-three b l w = let h : _≡_ {A = ℕ} 9 0 = sym w ∙ ap (λ (f : Field). f .tti) (shows-at _ 4 b l) in omega arith
+
+  -- levels count from 1
+  pub level-zero : now (a .0) ≡ replicate 38 0 ++ (9 ∷ []) → a .1 .0 ≡ 0 → x .tti ≡ 9 → ⊥
+  unfolding levelField fieldOf
+  level-zero b l w = let h : _≡_ {A = ℕ} 9 0 = sym w ∙ ap (λ (f : Field). f .tti) (shows-at _ 0 b l) in omega arith
+
+  -- BIP-8 stands between the TTI byte and the status byte
+  pub bip-for-status : now (a .0) ≡ replicate 39 0 ++ (7 ∷ []) → a .1 .0 ≡ 1 → x .stat ≡ 7 → ⊥
+  unfolding levelField fieldOf
+  bip-for-status b l w = let h : _≡_ {A = ℕ} 7 0 = sym w ∙ ap (λ (f : Field). f .stat) (shows-at _ 1 b l) in omega arith

@@ -1,5 +1,5 @@
 -- "One frame's overhead" (document 01): what is read from the 64 bytes. Bytes past the end count as 0. Assumes nothing.
-use mathlib.Core.Bool.{Bool, _&&_}
+use mathlib.Core.Bool.{Bool, cond, _&&_}
 use mathlib.Core.List.{List}
 use Prim.Native.Nat.{ℕ, _+_, _-_, _*_, _/_, _%_, _^_}
 use lib.Dec.{leb, eqb}
@@ -37,6 +37,21 @@ overheadOf o = record {
   section = fieldOf (byteAt o 1 8) (byteAt o 1 10);
   path = fieldOf (byteAt o 3 10) (byteAt o 3 12);
 }
+
+-- TTI byte, BIP-8 byte and status byte stand side by side: the field that begins at a row and a column
+abbrev pub fieldFrom : List ℕ → ℕ → ℕ → Field
+fieldFrom o row column = fieldOf (byteAt o row column) (byteAt o row (column + 2))
+
+-- "By G.709 their three-byte fields begin at row 3 columns 7, 4, 1 for levels 1 to 3 and row 2 columns 11, 8, 5 for levels 4 to 6." (document 02,
+-- K1; their status bits are those of PM) There is no other level: its field is zeros.
+unfoldable pub levelField : List ℕ → ℕ → Field
+levelField o level =
+    cond (eqb level 1) (fieldFrom o 3 7)
+    (cond (eqb level 2) (fieldFrom o 3 4)
+    (cond (eqb level 3) (fieldFrom o 3 1)
+    (cond (eqb level 4) (fieldFrom o 2 11)
+    (cond (eqb level 5) (fieldFrom o 2 8)
+    (cond (eqb level 6) (fieldFrom o 2 5) (fieldOf 0 0))))))
 
 -- "BEI 1 to 8 is one far-end errored block. 0 and 9 to 15 are none."
 unfoldable pub farBlock : ℕ → Bool

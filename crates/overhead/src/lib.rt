@@ -1,9 +1,9 @@
 // One frame's overhead: 64 bytes, four rows of columns 1 to 16, row after row.
 ghost use mathlib.Core.Path.{_≡_};
 ghost use lib.ListN.{getD};
-ghost use Rattle.overhead.specs.Overhead.{fourOf, threeOf, fieldOf, overheadOf, farBlock};
+ghost use Rattle.overhead.specs.Overhead.{fourOf, threeOf, fieldOf, overheadOf, levelField, farBlock};
 
-// The three bytes of SM or PM as far as they are looked at. The section looks at `iae`, the path at `stat`.
+// The three bytes of SM, PM or a tandem level as far as they are looked at. The section looks at `iae`, path and levels at `stat`.
 pub struct Field {
     pub tti: u8,
     pub bei: u8,
@@ -80,6 +80,27 @@ pub fn overhead_of(bytes: &[u8]) -> Overhead
         mfas: mfas,
         section: section,
         path: path,
+    }
+}
+
+// The field of a tandem level, TCM1 to TCM6; zeros where there is no such level.
+pub fn level_field(bytes: &[u8], level: u8) -> Field
+    ensures { λ r. ⌜ r ≡ levelField (now (bytes .entry)) level ⌝ }
+{
+    match level {
+        1 => field_of(bytes, 38, 40),
+        2 => field_of(bytes, 35, 37),
+        3 => field_of(bytes, 32, 34),
+        4 => field_of(bytes, 26, 28),
+        5 => field_of(bytes, 23, 25),
+        6 => field_of(bytes, 20, 22),
+        _ => Field {
+            tti: 0,
+            bei: 0,
+            bdi: false,
+            iae: false,
+            stat: 0,
+        },
     }
 }
 

@@ -1,4 +1,3 @@
-pub mod Parts
 pub mod Records
 pub mod Numbers
 pub mod Marks

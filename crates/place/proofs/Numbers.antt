@@ -1,28 +1,23 @@
 -- A layer's other numbers in their bytes: the filters, and the flags and counts of the second. Assumes nothing.
-use Prim.Native.Nat.{ℕ, _+_, _≤_}
+use Prim.Native.Nat.{ℕ}
 use mathlib.Core.Path.{_≡_, sym, ap, _∙_}
 use mathlib.Core.Bool.{Bool, false, _&&_, _||_, not}
 use mathlib.Core.List.{List, [], _∷_, _++_}
 use native.Mathlib.Omega.{arith}
 use lib.Dec.{eqb, leb}
 use lib.ListN.{length, take, drop}
-use Rattle.codec.proofs.Overs.{byte-in}
+use Rattle.codec.proofs.Overs.{length-in}
 use Rattle.codec.specs.Over.{bytesIn}
 use Rattle.codec.specs.Pieces.{Piece, joined, swapped}
 use Rattle.overhead.specs.declared.Field.{Field}
 use Rattle.overhead.specs.Overhead.{farBlock}
 use Rattle.filter.specs.declared.Filter.{Filter}
 use Rattle.filter.specs.declared.Stat.{Stat}
-use Rattle.filter.specs.Filter.{filterOf}
 use Rattle.place.specs.declared.Filtered.{Filtered}
-use Rattle.place.specs.Place.{filterAt, filterBytes, statBytes, flagsIn, countsIn, sectionFilters, filteredBytes, sectionNumbers, pathBdiAt, pathNumbers}
+use Rattle.fields.specs.Fields.{filterBytes, FilterStep, statBytes, statLaid, flagsLaid, countsIn}
+use Rattle.fields.proofs.Parts.{sized-so, filter-stepped, filter-in}
+use Rattle.place.specs.Place.{sectionFilters, filteredBytes, sectionNumbers, pathBdiAt, pathNumbers}
 use Rattle.cycle.proofs.Parts.{parted, parted-sized, parted-joined, lent, back, sized-back}
-
-filter-in : (w : List ℕ) (at : ℕ) → at + 2 ≤ length w → filterAt (bytesIn 2 at w) 0 ≡ filterAt w at
-filter-in w at h =
-    let x = byte-in 2 at 0 at w h (omega arith) (omega arith) in
-    let y = byte-in 2 at 1 (at + 1) w h (omega arith) (omega arith) in
-    rw (x, y)
 
 -- the three filters of a section, each in its two bytes
 module _ (w0 x1 x2 x3 : List ℕ) (f1 f2 f3 : Filter) (ssf tim : Bool) (f : Field) (h : length w0 ≡ 6) where
@@ -35,33 +30,35 @@ module _ (w0 x1 x2 x3 : List ℕ) (f1 f2 f3 : Filter) (ssf tim : Bool) (f : Fiel
   abbrev w3 : List ℕ
   w3 = take 4 w2 ++ (x3 ++ drop 2 (drop 4 w2))
 
-  pub filters-is : f1 ≡ filterOf (filterAt (take 2 w0) 0) 5 ssf (f .bdi) → x1 ≡ filterBytes (filterOf (filterAt (take 2 w0) 0) 5 ssf (f .bdi))
-      → f2 ≡ filterOf (filterAt (take 2 (drop 2 w1)) 0) 5 (ssf || tim) (f .iae) → x2 ≡ filterBytes (filterOf (filterAt (take 2 (drop 2 w1)) 0) 5 (ssf || tim) (f .iae))
-      → f3 ≡ filterOf (filterAt (take 2 (drop 4 w2)) 0) 3 (ssf || tim) (eqb (f .bei) 11) → x3 ≡ filterBytes (filterOf (filterAt (take 2 (drop 4 w2)) 0) 3 (ssf || tim) (eqb (f .bei) 11))
+  pub filters-is : FilterStep (take 2 w0) 5 ssf (f .bdi) f1 x1 → FilterStep (take 2 (drop 2 w1)) 5 (ssf || tim) (f .iae) f2 x2
+      → FilterStep (take 2 (drop 4 w2)) 3 (ssf || tim) (eqb (f .bei) 11) f3 x3
       → (_≡_ {A = Filtered} (record { bdi = f1; iae = f2; biae = f3 }) (sectionFilters w0 ssf tim f)) × (w3 ≡ filteredBytes (sectionFilters w0 ssf tim f))
-  filters-is e1 g1 e2 g2 e3 g3 =
+  filters-is e1 e2 e3 =
       let ps : List Piece = parted (2 ∷ 2 ∷ 2 ∷ []) 0 w0 in
       let qs : List Piece = swapped 0 x1 ps in
       let rs : List Piece = swapped 1 x2 qs in
       let i0 : w0 ≡ joined ps = sym (parted-joined (2 ∷ 2 ∷ 2 ∷ []) 0 w0 (sym h)) in
       let z0 = parted-sized (2 ∷ 2 ∷ 2 ∷ []) 0 w0 in
       let a : take 2 w0 ≡ bytesIn 2 0 w0 = lent 0 ps w0 i0 z0 in
+      let g1 = filter-stepped (bytesIn 2 0 w0) 5 ssf (f .bdi) f1 x1 (length-in 2 0 w0) (rw a at e1) in
       let i1 : w1 ≡ joined qs = back 0 ps w0 x1 i0 z0 (omega arith) in
-      let z1 = sized-back 0 ps x1 z0 (ap length g1) in
+      let z1 = sized-back 0 ps x1 z0 (ap length (g1 .1)) in
       let b : take 2 (drop 2 w1) ≡ bytesIn 2 2 w0 = lent 1 qs w1 i1 z1 in
+      let g2 = filter-stepped (bytesIn 2 2 w0) 5 (ssf || tim) (f .iae) f2 x2 (length-in 2 2 w0) (rw b at e2) in
       let i2 : w2 ≡ joined rs = back 1 qs w1 x2 i1 z1 (omega arith) in
-      let z2 = sized-back 1 qs x2 z1 (ap length g2) in
+      let z2 = sized-back 1 qs x2 z1 (ap length (g2 .1)) in
       let c : take 2 (drop 4 w2) ≡ bytesIn 2 4 w0 = lent 2 rs w2 i2 z2 in
+      let g3 = filter-stepped (bytesIn 2 4 w0) 3 (ssf || tim) (eqb (f .bei) 11) f3 x3 (length-in 2 4 w0) (rw c at e3) in
       let i3 : w3 ≡ joined (swapped 2 x3 rs) = back 2 rs w2 x3 i2 z2 (omega arith) in
       let p = filter-in w0 0 (omega arith) in
       let q = filter-in w0 2 (omega arith) in
       let r = filter-in w0 4 (omega arith) in
-      let d1 = rw (a, p) at e1 in
-      let d2 = rw (b, q) at e2 in
-      let d3 = rw (c, r) at e3 in
-      let y1 = rw (a, p) at g1 in
-      let y2 = rw (b, q) at g2 in
-      let y3 = rw (c, r) at g3 in
+      let d1 = rw p at (g1 .0) in
+      let d2 = rw q at (g2 .0) in
+      let d3 = rw r at (g3 .0) in
+      let y1 = rw p at (g1 .1) in
+      let y2 = rw q at (g2 .1) in
+      let y3 = rw r at (g3 .1) in
       (rw (d1, d2, d3), i3 ∙ rw (y1, y2, y3))
 
 -- all of a section's other numbers
@@ -76,7 +73,7 @@ module _ (w0 x1 x2 x3 : List ℕ) (d : Filtered) (far ssf tim : Bool) (f : Field
   v3 = take 21 v2 ++ (x3 ++ drop 8 (drop 21 v2))
 
   pub section-numbers-is : far ≡ farBlock (f .bei) → d ≡ sectionFilters (take 6 w0) ssf tim f → x1 ≡ filteredBytes (sectionFilters (take 6 w0) ssf tim f)
-      → x2 ≡ flagsIn (ssf || tim) (d .bdi .on) (d .iae .on) (d .biae .on) (take 4 (drop 10 v1))
+      → x2 ≡ flagsLaid (ssf || tim) (d .bdi .on) (d .iae .on) (d .biae .on) (take 4 (drop 10 v1))
       → x3 ≡ countsIn (leb 1 sm && not ssf) (far && not ssf) (take 8 (drop 21 v2))
       → (d ≡ sectionFilters (bytesIn 6 0 w0) ssf tim f) × (v3 ≡ sectionNumbers w0 ssf tim f sm)
   unfolding sectionNumbers
@@ -93,9 +90,9 @@ module _ (w0 x1 x2 x3 : List ℕ) (d : Filtered) (far ssf tim : Bool) (f : Field
       let i1 : v1 ≡ joined qs = back 0 ps w0 x1 i0 z0 (omega arith) in
       let z1 = sized-back 0 ps x1 z0 (ap length f1) in
       let b : take 4 (drop 10 v1) ≡ bytesIn 4 10 w0 = lent 2 qs v1 i1 z1 in
-      let f2 = rw (b, fd) at e2 in
+      let f2 = rw (b, fd) at e2 ∙ sized-so 4 (bytesIn 4 10 w0) _ _ (length-in 4 10 w0) in
       let i2 : v2 ≡ joined rs = back 2 qs v1 x2 i1 z1 (omega arith) in
-      let z2 = sized-back 2 qs x2 z1 (ap length e2) in
+      let z2 = sized-back 2 qs x2 z1 (ap length f2) in
       let c : take 8 (drop 21 v2) ≡ bytesIn 8 21 w0 = lent 4 rs v2 i2 z2 in
       let f3 = rw (c, ef) at e3 in
       let i3 : v3 ≡ joined (swapped 4 x3 rs) = back 4 rs v2 x3 i2 z2 (omega arith) in
@@ -115,12 +112,12 @@ module _ (w0 x1 x2 x3 x4 : List ℕ) (bdi : Filter) (t : Stat) (far forget stops
   abbrev u4 : List ℕ
   u4 = take 21 u3 ++ (x4 ++ drop 8 (drop 21 u3))
 
-  pub path-numbers-is : far ≡ farBlock (f .bei) → bdi ≡ pathBdiAt (take 2 w0) forget f → x1 ≡ filterBytes (pathBdiAt (take 2 w0) forget f) → x2 ≡ statBytes t
-      → x3 ≡ flagsIn (stops || tim) (bdi .on) false false (take 4 (drop 10 u2))
+  pub path-numbers-is : far ≡ farBlock (f .bei) → FilterStep (take 2 w0) 5 forget (f .bdi) bdi x1 → x2 ≡ statLaid (take 4 (drop 6 u1)) t
+      → x3 ≡ flagsLaid (stops || tim) (bdi .on) false false (take 4 (drop 10 u2))
       → x4 ≡ countsIn (leb 1 pm && not stops) (far && not stops) (take 8 (drop 21 u3))
       → (bdi ≡ pathBdiAt (bytesIn 2 0 w0) forget f) × (u4 ≡ pathNumbers w0 t forget stops tim f pm)
   unfolding pathNumbers
-  path-numbers-is ef ed e1 e2 e3 e4 =
+  path-numbers-is ef ed e2 e3 e4 =
       let ws : List ℕ = 2 ∷ 4 ∷ 4 ∷ 4 ∷ 7 ∷ 8 ∷ [] in
       let ps : List Piece = parted ws 0 w0 in
       let qs : List Piece = swapped 0 x1 ps in
@@ -129,17 +126,20 @@ module _ (w0 x1 x2 x3 x4 : List ℕ) (bdi : Filter) (t : Stat) (far forget stops
       let i0 : w0 ≡ joined ps = sym (parted-joined ws 0 w0 (sym h)) in
       let z0 = parted-sized ws 0 w0 in
       let a : take 2 w0 ≡ bytesIn 2 0 w0 = lent 0 ps w0 i0 z0 in
-      let fd : bdi ≡ pathBdiAt (bytesIn 2 0 w0) forget f = rw a at ed in
-      let f1 : x1 ≡ filterBytes (pathBdiAt (bytesIn 2 0 w0) forget f) = rw a at e1 in
+      let g1 = filter-stepped (bytesIn 2 0 w0) 5 forget (f .bdi) bdi x1 (length-in 2 0 w0) (rw a at ed) in
+      let fd : bdi ≡ pathBdiAt (bytesIn 2 0 w0) forget f = g1 .0 in
+      let f1 : x1 ≡ filterBytes (pathBdiAt (bytesIn 2 0 w0) forget f) = g1 .1 in
       let i1 : u1 ≡ joined qs = back 0 ps w0 x1 i0 z0 (omega arith) in
       let z1 = sized-back 0 ps x1 z0 (ap length f1) in
+      let s : take 4 (drop 6 u1) ≡ bytesIn 4 6 w0 = lent 2 qs u1 i1 z1 in
+      let f2 : x2 ≡ statBytes t = rw s at e2 ∙ sized-so 4 (bytesIn 4 6 w0) _ _ (length-in 4 6 w0) in
       let i2 : u2 ≡ joined rs = back 2 qs u1 x2 i1 z1 (omega arith) in
-      let z2 = sized-back 2 qs x2 z1 (ap length e2) in
+      let z2 = sized-back 2 qs x2 z1 (ap length f2) in
       let b : take 4 (drop 10 u2) ≡ bytesIn 4 10 w0 = lent 3 rs u2 i2 z2 in
-      let f3 = rw (b, fd) at e3 in
+      let f3 = rw (b, fd) at e3 ∙ sized-so 4 (bytesIn 4 10 w0) _ _ (length-in 4 10 w0) in
       let i3 : u3 ≡ joined ss = back 3 rs u2 x3 i2 z2 (omega arith) in
-      let z3 = sized-back 3 rs x3 z2 (ap length e3) in
+      let z3 = sized-back 3 rs x3 z2 (ap length f3) in
       let c : take 8 (drop 21 u3) ≡ bytesIn 8 21 w0 = lent 5 ss u3 i3 z3 in
       let f4 = rw (c, ef) at e4 in
       let i4 : u4 ≡ joined (swapped 5 x4 ss) = back 5 ss u3 x4 i3 z3 (omega arith) in
-      (fd, i4 ∙ rw (f1, e2, f3, f4))
+      (fd, i4 ∙ rw (f1, f2, f3, f4))

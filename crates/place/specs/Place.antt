@@ -6,7 +6,6 @@ use mathlib.Core.List.{List, [], _∷_, _++_}
 use Prim.Native.Nat.{ℕ, _+_}
 use lib.Dec.{eqb, leb, ltb}
 use lib.ListN.{getD, replicate}
-use Rattle.answer.specs.Bits.{flag}
 use Rattle.codec.specs.Over.{bytesIn, laid}
 use Rattle.codec.specs.Pieces.{piece, joined}
 use Rattle.words.specs.Words.{flat, countedIn}
@@ -30,38 +29,11 @@ use Rattle.frame.specs.Layers.{lineOf}
 use Rattle.numbers.specs.declared.Head.{Head}
 use Rattle.numbers.specs.declared.Front.{Front}
 use Rattle.numbers.specs.declared.State.{State}
-use Rattle.numbers.specs.Numbers.{on, low, headBytes, headIn, alignBytes, alignIn, frontBytes, frontIn, stateBytes, stateIn}
+use Rattle.numbers.specs.Numbers.{on, headBytes, headIn, alignBytes, alignIn, frontBytes, frontIn, stateBytes, stateIn}
+use Rattle.fields.specs.Fields.{filterAt, filterBytes, statAt, statBytes, flagsIn, countsIn}
 use Rattle.cycle.specs.Cycle.{cycleOf, tracesOf, recordParts, layerStep, timAfter, whole}
 use Rattle.place.specs.declared.LineFrame.{LineFrame}
 use Rattle.place.specs.declared.Filtered.{Filtered}
-
--- Small parts of a record, and what becomes of them.
-
-abbrev pub filterAt : List ℕ → ℕ → Filter
-filterAt w at = record { on = on (getD w at 0); run = getD w (at + 1) 0 }
-
-abbrev pub filterBytes : Filter → List ℕ
-filterBytes f = flag (f .on) ∷ low (f .run) ∷ []
-
-abbrev pub statAt : List ℕ → ℕ → Stat
-statAt w at = record { value = getD w at 0; run = getD w (at + 1) 0; known = on (getD w (at + 2) 0); accepted = getD w (at + 3) 0 }
-
-abbrev pub statBytes : Stat → List ℕ
-statBytes s = s .value ∷ low (s .run) ∷ flag (s .known) ∷ s .accepted ∷ []
-
--- four flags of the second (near and far DS, whether dIAE and dBIAE stood): once raised they stay
-abbrev pub raised : Bool → ℕ → ℕ
-raised more x = cond more 1 x
-
-abbrev pub flagsIn : Bool → Bool → Bool → Bool → List ℕ → List ℕ
-flagsIn near far iae biae w = raised near (getD w 0 0) ∷ raised far (getD w 1 0) ∷ raised iae (getD w 2 0) ∷ raised biae (getD w 3 0) ∷ []
-
--- two counts of the second (near and far blocks)
-abbrev pub countedBy : Bool → ℕ → List ℕ → List ℕ
-countedBy more i w = cond more (countedIn w i 400000) w
-
-abbrev pub countsIn : Bool → Bool → List ℕ → List ℕ
-countsIn near far w = countedBy far 1 (countedBy near 0 w)
 
 -- The section's other numbers: "dBDI: BDI 1 in five frames in a row; cleared by five 0"; "Section dIAE: IAE, five and five. Section dBIAE: BEI = 1011
 -- in three frames in a row; cleared by three others. Both false during SSF and dTIM." It has no STAT. Then the second's flags and counts: "Blocks

@@ -12,12 +12,9 @@ use second::Far;
 use second::Near;
 use signal::Signal;
 ghost use mathlib.Core.Path.{_≡_};
-ghost use mathlib.Core.Bool.{cond};
-ghost use Prim.Native.Nat.{_<_};
-ghost use lib.ListN.{length, set};
+ghost use lib.ListN.{length};
 ghost use Rattle.codec.specs.Over.{bytesIn};
-ghost use Rattle.filter.specs.Filter.{filterOf};
-ghost use Rattle.place.specs.Place.{filterAt, filterBytes, statBytes, flagsIn, countedBy, countsIn, sectionFilters, filteredBytes, sectionNumbers, sectionStood, sectionRecord, SectionAt, pathBdiAt, pathNumbers, pathStood, pathRecord, PathAt, LineAt, talliedIn, CloseAt, openedIn};
+ghost use Rattle.place.specs.Place.{sectionFilters, filteredBytes, sectionNumbers, sectionStood, sectionRecord, SectionAt, pathBdiAt, pathNumbers, pathStood, pathRecord, PathAt, LineAt, talliedIn, CloseAt, openedIn};
 
 // What stands at the line after a frame, and its multiframe.
 pub struct LineFrame {
@@ -38,68 +35,14 @@ fn wide(x: u8) -> u32
     x as u32
 }
 
-// A filter in its two bytes.
-fn filter_at(w: &mut [u8], n: u32, forget: bool, bit: bool) -> Filter
-    requires { ⌜ length (now w) ≡ 2 ⌝ }
-    ensures { λ r. ⌜ (r ≡ filterOf (filterAt (now (w .entry)) 0) n forget bit) × (now (w .exit) ≡ filterBytes (filterOf (filterAt (now (w .entry)) 0) n forget bit)) ⌝ }
-{
-    let run = wide(w[1]);
-    let before = Filter {
-        on: w[0] == 1,
-        run: run,
-    };
-    let after = filter::filter_step(before, n, forget, bit);
-    w[0] = after.on as u8;
-    w[1] = (after.run % 256) as u8;
-    after
-}
-
-// A flag of the second: once raised it stays.
-fn raise(w: &mut [u8], i: usize, more: bool)
-    requires { ⌜ i < length (now w) ⌝ }
-    ensures { λ _. ⌜ now (w .exit) ≡ cond more (set (now (w .entry)) i 1) (now (w .entry)) ⌝ }
-{
-    if more {
-        w[i] = 1;
-    }
-}
-
-// The four flags of the second.
-fn flags_at(w: &mut [u8], near: bool, far: bool, iae: bool, biae: bool)
-    requires { ⌜ length (now w) ≡ 4 ⌝ }
-    ensures { λ _. ⌜ now (w .exit) ≡ flagsIn near far iae biae (now (w .entry)) ⌝ }
-{
-    raise(w, 0, near);
-    raise(w, 1, far);
-    raise(w, 2, iae);
-    raise(w, 3, biae);
-}
-
-// A count of the second, one more.
-fn bump(w: &mut [u8], i: u32, more: bool)
-    ensures { λ _. ⌜ now (w .exit) ≡ countedBy more i (now (w .entry)) ⌝ }
-{
-    if more {
-        words::count_at(w, i, 400000);
-    }
-}
-
-// The two counts of the second.
-fn counts_at(w: &mut [u8], near: bool, far: bool)
-    ensures { λ _. ⌜ now (w .exit) ≡ countsIn near far (now (w .entry)) ⌝ }
-{
-    bump(w, 0, near);
-    bump(w, 1, far);
-}
-
 // The filters of a section.
 fn filters_at(w: &mut [u8], ssf: bool, tim: bool, f: Field) -> Filtered
     requires { ⌜ length (now w) ≡ 6 ⌝ }
     ensures { λ r. ⌜ (r ≡ sectionFilters (now (w .entry)) ssf tim f) × (now (w .exit) ≡ filteredBytes (sectionFilters (now (w .entry)) ssf tim f)) ⌝ }
 {
-    let bdi = filter_at(&mut w[0..2], 5, ssf, f.bdi);
-    let iae = filter_at(&mut w[2..4], 5, ssf | tim, f.iae);
-    let biae = filter_at(&mut w[4..6], 3, ssf | tim, f.bei == 11);
+    let bdi = fields::filter_at(&mut w[0..2], 5, ssf, f.bdi);
+    let iae = fields::filter_at(&mut w[2..4], 5, ssf | tim, f.iae);
+    let biae = fields::filter_at(&mut w[4..6], 3, ssf | tim, f.bei == 11);
     Filtered {
         bdi: bdi,
         iae: iae,
@@ -114,8 +57,8 @@ fn section_numbers(w: &mut [u8], ssf: bool, tim: bool, f: Field, sm: u8) -> Filt
 {
     let far = overhead::far_block(f.bei);
     let d = filters_at(&mut w[0..6], ssf, tim, f);
-    flags_at(&mut w[10..14], ssf | tim, d.bdi.on, d.iae.on, d.biae.on);
-    counts_at(&mut w[21..29], (1 <= sm) & !ssf, far & !ssf);
+    fields::flags_at(&mut w[10..14], ssf | tim, d.bdi.on, d.iae.on, d.biae.on);
+    fields::counts_at(&mut w[21..29], (1 <= sm) & !ssf, far & !ssf);
     d
 }
 
@@ -155,17 +98,6 @@ pub fn section_at(b: &mut [u8], ssf: bool, m: Multi, f: Field, sm: u8) -> Sectio
     }
 }
 
-// A STAT in its four bytes.
-fn lay_stat(w: &mut [u8], s: Stat)
-    requires { ⌜ length (now w) ≡ 4 ⌝ }
-    ensures { λ _. ⌜ now (w .exit) ≡ statBytes s ⌝ }
-{
-    w[0] = s.value;
-    w[1] = (s.run % 256) as u8;
-    w[2] = s.known as u8;
-    w[3] = s.accepted;
-}
-
 // A path's other numbers after a frame: dBDI, STAT, and the second's flags and counts.
 fn path_numbers(
     w: &mut [u8],
@@ -180,10 +112,10 @@ fn path_numbers(
     ensures { λ r. ⌜ (r ≡ pathBdiAt (bytesIn 2 0 (now (w .entry))) forget f) × (now (w .exit) ≡ pathNumbers (now (w .entry)) t forget stops tim f pm) ⌝ }
 {
     let far = overhead::far_block(f.bei);
-    let bdi = filter_at(&mut w[0..2], 5, forget, f.bdi);
-    lay_stat(&mut w[6..10], t);
-    flags_at(&mut w[10..14], stops | tim, bdi.on, false, false);
-    counts_at(&mut w[21..29], (1 <= pm) & !stops, far & !stops);
+    let bdi = fields::filter_at(&mut w[0..2], 5, forget, f.bdi);
+    fields::lay_stat(&mut w[6..10], t);
+    fields::flags_at(&mut w[10..14], stops | tim, bdi.on, false, false);
+    fields::counts_at(&mut w[21..29], (1 <= pm) & !stops, far & !stops);
     bdi
 }
 

@@ -1,7 +1,6 @@
 // The test of refusal 17: the length of lent bytes, and each number within its range. docs/SUPERVISOR.md has the table.
 use words::word_of;
 ghost use mathlib.Core.Path.{_≡_};
-ghost use Prim.Native.Nat.{_+_, _≤_};
 ghost use lib.ListN.{length};
 ghost use Rattle.codec.specs.Over.{bytesIn};
 ghost use Rattle.words.specs.Words.{wordsIn};
@@ -285,15 +284,17 @@ fn is_line_in(b: &[u8]) -> bool
     is_line(w, h, a, c)
 }
 
-// A layer of lent bytes, from `at`: its band, and the two strips of it.
-fn is_layer_in(b: &[u8], at: u32, greatest: [u8; 64]) -> bool
-    requires { ⌜ (length (now b) ≡ 688) × (at + 64 ≤ 688) ⌝ }
-    ensures { λ r. ⌜ r ≡ layerRanged greatest (bytesIn 64 at (now (b .entry))) ⌝ }
+// A layer's record: its band, and the two strips of it. Fewer bytes than a band hold no layer.
+pub fn is_layer_in(b: &[u8], greatest: [u8; 64]) -> bool
+    ensures { λ r. ⌜ r ≡ layerRanged greatest (bytesIn 64 0 (now (b .entry))) ⌝ }
 {
-    let w = codec::band_in(b, at);
-    let f = codec::strip_in(b, at);
-    let s = codec::strip_in(b, at + 32);
-    is_layer(greatest, w, f, s)
+    if 64 <= b.len() {
+        let w = codec::band_in(b, 0);
+        let f = codec::strip_in(b, 0);
+        let s = codec::strip_in(b, 32);
+        return is_layer(greatest, w, f, s);
+    }
+    false
 }
 
 // Whether lent bytes are a supervisor's: their length, then the numbers of the line and of each layer.
@@ -304,8 +305,8 @@ pub fn is_sound(b: &[u8]) -> bool
         let sg = section_greatest();
         let pg = path_greatest();
         let l = is_line_in(b);
-        let s = is_layer_in(b, 112, sg);
-        let p = is_layer_in(b, 400, pg);
+        let s = is_layer_in(&b[112..400], sg);
+        let p = is_layer_in(&b[400..688], pg);
         return l & (s & p);
     }
     false

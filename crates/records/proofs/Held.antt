@@ -28,7 +28,7 @@ use Rattle.history.specs.Ranges.{Ranged}
 use Rattle.supervisor.specs.declared.Supervisor.{Supervisor}
 use Rattle.cycle.specs.declared.Cycle.{Cycle}
 use Rattle.cycle.specs.Cycle.{cycleIn, cycleBytes, traced, cycleStep, timIn, layerStep, timAfter}
-use Rattle.place.specs.Place.{raised, countsIn}
+use Rattle.fields.specs.Fields.{raised, countsIn}
 
 -- Small laws.
 

@@ -33,7 +33,8 @@ use Rattle.numbers.proofs.Strips.{flag-back, StateFits}
 use Rattle.image.specs.Image.{Sizes}
 use Rattle.cycle.specs.Cycle.{cycleBytes, cycleOf, tracesOf, recordParts, layerStep, timAfter}
 use Rattle.place.specs.declared.Filtered.{Filtered}
-use Rattle.place.specs.Place.{filterBytes, statBytes, raised, countsIn, sectionFilters, filteredBytes, sectionNumbers, sectionStood, sectionRecord, SectionAt, pathStat, pathForgets, pathStops, pathBdiAt, pathNumbers, pathStood, pathRecord, PathAt}
+use Rattle.fields.specs.Fields.{filterBytes, statBytes, raised, countsIn}
+use Rattle.place.specs.Place.{sectionFilters, filteredBytes, sectionNumbers, sectionStood, sectionRecord, SectionAt, pathStat, pathForgets, pathStops, pathBdiAt, pathNumbers, pathStood, pathRecord, PathAt}
 use Rattle.records.proofs.Held.{filter-back, stat-back, raise-flag, counts-is, before-rest, others, long, front-part, others-part, names-part, quieted, step-is, tim-is, layer-is}
 
 -- the count of a block, as a number
@@ -48,13 +49,13 @@ far-number n true = refl
 far-number n false = refl
 
 -- the last 19 bytes of a state strip: the second's flags, spare bytes and counts
-abbrev lasts : Blocks → Bool → Bool → List ℕ
+abbrev pub lasts : Blocks → Bool → Bool → List ℕ
 lasts b i j =
     flag (b .neards) ∷ flag (b .fards) ∷ flag i ∷ flag j
     ∷ 0 ∷ 0 ∷ 0 ∷ 0 ∷ 0 ∷ 0 ∷ 0 ∷ (le4 (b .near .0) ++ le4 (b .far .0))
 
 -- the same after a frame, from the bytes
-lasts-is : (b : Blocks) (i j stopped near far ds fds u v : Bool) → b .near .0 < 4294967296 → b .far .0 < 4294967296
+pub lasts-is : (b : Blocks) (i j stopped near far ds fds u v : Bool) → b .near .0 < 4294967296 → b .far .0 < 4294967296
     → raised ds (flag (b .neards)) ∷ raised fds (flag (b .fards)) ∷ raised u (flag i) ∷ raised v (flag j)
     ∷ 0 ∷ 0 ∷ 0 ∷ 0 ∷ 0 ∷ 0 ∷ 0 ∷ (countsIn (near && not stopped) (far && not stopped) (le4 (b .near .0) ++ le4 (b .far .0)) ++ [])
     ≡ lasts (blocksOf b (record { stopped = stopped; near = near; far = far; neards = ds; fards = fds })) (i || u) (j || v)

@@ -91,7 +91,7 @@ module _ (h : Held) (z : Sizes h) (f : FrontFits (h .front)) (t : StateFits (h .
   unfolding heldBytes
   state-of = ap stateIn (bytes-piece 1 (heldPieces h) (held-sized h z)) ∙ state-back (h .state) t
 
-  closes : (r : Blocks) (x : List ℕ) → CloseAt (heldBytes h) r x → (r ≡ closedBy (h .state)) × (x ≡ heldBytes (heldAfter h))
+  pub closes : (r : Blocks) (x : List ℕ) → CloseAt (heldBytes h) r x → (r ≡ closedBy (h .state)) × (x ≡ heldBytes (heldAfter h))
   closes r x c = (
     c .answers ∙ ap closedBy state-of,
     c .holds

@@ -445,7 +445,14 @@ fn directed(dir: &str, programs: &Programs, write: &Option<String>) {
             fail(parting(&listed, &case.listing));
         }
         // The calls meet a full second in trace 0.
-        let g = Generated { provisioning: case.provisioning, items: case.items, bytes: Vec::new(), about: String::new() };
+        let g = Generated {
+            provisioning: case.provisioning,
+            levels: Vec::new(),
+            counted: false,
+            items: case.items,
+            bytes: Vec::new(),
+            about: String::new(),
+        };
         let session = (g.items.len() < 100_000).then(|| session(&mut Random::new(count), &g, &mut Cover::default()));
         let explanation = programs.explanation(&case.bytes);
         workers.give(Task { whose, trace: case.bytes, listing: case.listing, explanation, session });

@@ -6,6 +6,7 @@ use second::explain::explain;
 use second::generate;
 use second::random::Random;
 use second::reader::{self, Trace};
+use second::WITH_LEVELS;
 use std::io::{Read, Write};
 use std::process::{Command, ExitStatus, Stdio};
 
@@ -88,7 +89,7 @@ fn main() {
     }
     let ledgers = std::env::var("LEDGERS").unwrap_or_default();
     let explains = std::env::var("EXPLAINS").unwrap_or_default();
-    let mut refusals = [0u64; 18];
+    let mut refusals = vec![0u64; if WITH_LEVELS { 20 } else { 18 }];
     let mut rng = Random::new(seed);
     let mut from = Vec::new();
     for index in 0..inputs {
@@ -113,5 +114,8 @@ fn main() {
             }
         }
     }
-    println!("soak: seed {seed}, {inputs} inputs to each program; ended well and with refusals 1 to 17: {refusals:?}");
+    println!(
+        "soak: seed {seed}, {inputs} inputs to each program; ended well and with refusals 1 to {}: {refusals:?}",
+        refusals.len() - 1
+    );
 }

@@ -49,7 +49,7 @@ returns c =
     let x = c .before .before .before .before .before .before .before .before .before .before .before .filter-at .ensures in
     let y = c .before .before .before .before .before .before .before .filter-at2 .ensures in
     let z = c .before .before .filter-at3 .ensures in
-    filters-is (now (a .args .w)) _ _ _ _ _ _ (a .args .ssf) (a .args .tim) (a .args .f) (a .pre) (x .0) (x .1) (y .0) (y .1) (z .0) (z .1)
+    filters-is (now (a .args .w)) _ _ _ _ _ _ (a .args .ssf) (a .args .tim) (a .args .f) (a .pre) x y z
 
 pub filters-at-spec : {M : Type 1} → statement M
 filters-at-spec =

@@ -62,7 +62,7 @@ returns : tie.Need-returns
 returns c =
     let a = c .before .before .before .before .before .before .before .before .before .before .before .before .before .before .before .before .before .before in
     let d = c .before .before .before .before .before .before .before .before .before .before .before .before .before .before .filter-at .ensures in
-    path-numbers-is (now (a .args .w)) _ _ _ _ _ (a .args .t) _ (a .args .forget) (a .args .stops) (a .args .tim) (a .args .f) (a .args .pm) (a .pre) (c .before .before .before .before .before .before .before .before .before .before .before .before .before .before .before .before .far-block .ensures) (d .0) (d .1) (c .before .before .before .before .before .before .before .before .before .before .lay-stat .ensures) (c .before .before .before .before .before .before .flags-at .ensures) (c .before .before .counts-at .ensures)
+    path-numbers-is (now (a .args .w)) _ _ _ _ _ (a .args .t) _ (a .args .forget) (a .args .stops) (a .args .tim) (a .args .f) (a .args .pm) (a .pre) (c .before .before .before .before .before .before .before .before .before .before .before .before .before .before .before .before .far-block .ensures) d (c .before .before .before .before .before .before .before .before .before .before .lay-stat .ensures) (c .before .before .before .before .before .before .flags-at .ensures) (c .before .before .counts-at .ensures)
 
 pub path-numbers-spec : {M : Type 1} → statement M
 path-numbers-spec =

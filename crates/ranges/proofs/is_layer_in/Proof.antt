@@ -1,9 +1,6 @@
 use mathlib.Core.Path.{_∙_}
-use Prim.Native.Nat.{_+_, _≤_}
-use native.Mathlib.Omega.{arith}
 use denote.Ref.{now}
-use lib.ListN.{length}
-use Rattle.ranges.proofs.Strips.{layer-by}
+use Rattle.ranges.proofs.Strips.{layer-by, layer-short}
 use borrow.Author.Needs.{needs}
 use Rattle.ranges.proofs.is_layer_in.Statement.{statement}
 use Rattle.ranges.proofs.is_layer_in.Tie as tie
@@ -14,9 +11,6 @@ band-in-requires c κs = search needs
 strip-in-requires : tie.Need-strip-in-requires
 strip-in-requires c κs = search needs
 
-add-strip-in : tie.Need-add-strip-in
-add-strip-in c = search needs
-
 strip-in-requires-2 : tie.Need-strip-in-requires-2
 strip-in-requires-2 c κs = search needs
 
@@ -25,12 +19,13 @@ is-layer-requires c κs = search needs
 
 returns : tie.Need-returns
 returns c =
-    let k = c .before .before .before .before .before in
-    let b = now (k .args .b) in
-    let h : k .args .at + 64 ≤ length b = omega (arith, k .pre .0, k .pre .1) in
+    let k = c .before .before .before in
+    let a = k .before .before .before .args in
     c .is-layer .ensures
-    ∙ rw (c .before .before .before .band-in .ensures, c .before .before .strip-in .ensures, c .before .strip-in2 .ensures)
-    (layer-by b (k .args .greatest) (k .args .at) h)
+    ∙ rw (k .band-in .ensures, c .before .before .strip-in .ensures, c .before .strip-in2 .ensures) (layer-by (now (a .b)) (a .greatest) (k .before .if1 .taken))
+
+returns-2 : tie.Need-returns-2
+returns-2 c = let a = c .before .before .args in layer-short (now (a .b)) (a .greatest) (c .if1 .left)
 
 pub is-layer-in-spec : {M : Type 1} → statement M
 is-layer-in-spec =
@@ -38,7 +33,7 @@ is-layer-in-spec =
     (tie.spec
     band-in-requires
     strip-in-requires
-    add-strip-in
     strip-in-requires-2
     is-layer-requires
-    returns)
+    returns
+    returns-2)

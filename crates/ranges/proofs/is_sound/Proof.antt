@@ -6,6 +6,7 @@ use lib.ListN.{length, getD}
 use borrow.Author.Tests.{eq-eqb, ne-eqb}
 use Rattle.ranges.specs.Sound.{sound}
 use Rattle.ranges.proofs.Below.{bytes-below}
+use Rattle.ranges.proofs.Strips.{front-in}
 use borrow.Author.Needs.{needs}
 use Rattle.ranges.proofs.is_sound.Statement.{statement}
 use Rattle.ranges.proofs.is_sound.Tie as tie
@@ -19,8 +20,26 @@ path-greatest-requires c κs = search needs
 is-line-in-requires : tie.Need-is-line-in-requires
 is-line-in-requires c κs = search needs
 
+sub-is-layer-in : tie.Need-sub-is-layer-in
+sub-is-layer-in c = search needs
+
+part-is-layer-in-start : tie.Need-part-is-layer-in-start
+part-is-layer-in-start c = search needs
+
+part-is-layer-in-end : tie.Need-part-is-layer-in-end
+part-is-layer-in-end c = search needs
+
 is-layer-in-requires : tie.Need-is-layer-in-requires
 is-layer-in-requires c κs = search needs
+
+sub-is-layer-in-2 : tie.Need-sub-is-layer-in-2
+sub-is-layer-in-2 c = search needs
+
+part-is-layer-in-start-2 : tie.Need-part-is-layer-in-start-2
+part-is-layer-in-start-2 c = search needs
+
+part-is-layer-in-end-2 : tie.Need-part-is-layer-in-end-2
+part-is-layer-in-end-2 c = search needs
 
 is-layer-in-requires-2 : tie.Need-is-layer-in-requires-2
 is-layer-in-requires-2 c κs = search needs
@@ -28,17 +47,19 @@ is-layer-in-requires-2 c κs = search needs
 returns : tie.Need-returns
 unfolding sound
 returns c =
-    let p = c .before .before .before .before .before in
+    let p = c .before .before .before .before .before .before .before in
     let b = now (p .before .before .args .b) in
     let n : length b ≡ 688 = p .if1 .taken in
     let f : (i : ℕ) → getD b i 0 ≤ 255 = λ i. omega (arith, p .before .shared-slice-known .given i) in
     simp (
       eq-eqb (length b) 688 n,
       bytes-below 48 64 b (omega arith) f,
-      ← c .before .before .before .before .section-greatest .ensures,
-      ← c .before .before .before .path-greatest .ensures,
-      ← c .before .before .is-line-in .ensures,
-      ← c .before .is-layer-in .ensures,
+      ← front-in 64 288 112 b (omega arith) (omega arith),
+      ← front-in 64 288 400 b (omega arith) (omega arith),
+      ← c .before .before .before .before .before .before .section-greatest .ensures,
+      ← c .before .before .before .before .before .path-greatest .ensures,
+      ← c .before .before .before .before .is-line-in .ensures,
+      ← c .before .before .is-layer-in .ensures,
       ← c .is-layer-in2 .ensures,
     )
 
@@ -53,7 +74,13 @@ is-sound-spec =
     section-greatest-requires
     path-greatest-requires
     is-line-in-requires
+    sub-is-layer-in
+    part-is-layer-in-start
+    part-is-layer-in-end
     is-layer-in-requires
+    sub-is-layer-in-2
+    part-is-layer-in-start-2
+    part-is-layer-in-end-2
     is-layer-in-requires-2
     returns
     returns-2)

@@ -1,0 +1,4 @@
+pub mod Clause
+pub mod Level
+pub mod Status
+pub mod Worked

@@ -1,0 +1,4 @@
+pub mod Refusals
+pub mod Refuted
+pub mod Turns
+pub mod Unique

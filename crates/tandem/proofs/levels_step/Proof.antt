@@ -1,0 +1,91 @@
+use mathlib.Core.Path.{_≡_, refl}
+use Prim.Native.Nat.{_≤_, _-_}
+use native.Mathlib.Omega.{arith}
+use denote.Ref.{now}
+use lib.ListN.{length, take, length-set}
+use Rattle.answer.proofs.Each.{turn, turned}
+use Rattle.tandem.specs.Levels.{frameRule, framedLevels}
+use Rattle.tandem.proofs.Turns.{frame-turn}
+use borrow.Author.Needs.{needs}
+use Rattle.tandem.proofs.levels_step.Statement.{statement}
+use Rattle.tandem.proofs.levels_step.Tie as tie
+
+abbrev Inv-loop : tie.InvT-loop
+Inv-loop ssf m overhead ls counts levels₀ i₀ levels i =
+    (i ≤ 6) × (length levels ≡ 6) × (take i levels ≡ take i (framedLevels ls ssf m overhead counts))
+
+abbrev μ-loop : tie.MeasureT-loop
+μ-loop ssf m overhead ls counts levels₀ i₀ levels i = 6 - i
+
+loop-holds : tie.Need-loop-holds Inv-loop μ-loop
+loop-holds c = (omega arith, omega arith, refl)
+
+cast-level-field : tie.Need-cast-level-field Inv-loop μ-loop
+cast-level-field c = search needs
+
+add-level-field : tie.Need-add-level-field Inv-loop μ-loop
+add-level-field c = search needs
+
+level-field-requires : tie.Need-level-field-requires Inv-loop μ-loop
+level-field-requires c κs = search needs
+
+mul-l : tie.Need-mul-l Inv-loop μ-loop
+mul-l c = search needs
+
+array-copy-out-l : tie.Need-array-copy-out-l Inv-loop μ-loop
+array-copy-out-l c = search needs
+
+array-read-one-step : tie.Need-array-read-one-step Inv-loop μ-loop
+array-read-one-step c = search needs
+
+one-step-requires : tie.Need-one-step-requires Inv-loop μ-loop
+one-step-requires c κs = search needs
+
+mul-levels : tie.Need-mul-levels Inv-loop μ-loop
+mul-levels c = search needs
+
+array-set-from-levels : tie.Need-array-set-from-levels Inv-loop μ-loop
+array-set-from-levels c = search needs
+
+add-i : tie.Need-add-i Inv-loop μ-loop
+add-i c = search needs
+
+loop-less : tie.Need-loop-less Inv-loop μ-loop
+loop-less c = search needs
+
+loop-again : tie.Need-loop-again Inv-loop μ-loop
+loop-again c =
+    let l = c .before .before .before .before .loop in
+    let a = c .before .before .before .before .before .before .args in
+    let o = now (a .overhead) in
+    let e = frame-turn _ (a .ssf) (a .m) o (a .t5) (l .i) _ _ (c .before .before .level-field .ensures) (c .one-step .ensures) in
+    let t = turn (frameRule (a .ssf) (a .m) o (a .t5)) 1 (a .t1) (l .levels) (l .i) _ _ (l .inv .2) (omega arith) (omega arith) e in
+    (omega arith, simp length-set (omega arith), t)
+
+returns : tie.Need-returns Inv-loop μ-loop
+returns c =
+    let l = c .before .loop in
+    let a = c .before .before .before .args in
+    let e : l .i ≡ 6 = omega arith in
+    turned (frameRule (a .ssf) (a .m) (now (a .overhead)) (a .t5)) 1 (a .t1) (l .levels) 6 (rw e at (l .inv .2)) (omega arith) (omega arith)
+
+pub levels-step-spec : {M : Type 1} → statement M
+levels-step-spec =
+    tie.close
+    (tie.spec
+    Inv-loop
+    μ-loop
+    loop-holds
+    cast-level-field
+    add-level-field
+    level-field-requires
+    mul-l
+    array-copy-out-l
+    array-read-one-step
+    one-step-requires
+    mul-levels
+    array-set-from-levels
+    add-i
+    loop-less
+    loop-again
+    returns)
