@@ -1,4 +1,5 @@
-/* A small firmware loop: one supervisor for one line, a frame at a time, a mark each second, and what stands in words.
+/* A small firmware loop: one supervisor for one line and two of its tandem levels, a frame at a time, a mark each second, and what stands
+   in words.
    In a card, `next_frame` is the framer chip, and a second is 1 s of its frames; here a line is made up, with 100 frames a second.
 
    cc -o firmware examples/firmware.c target/staticlib/libcard.a */
@@ -12,10 +13,15 @@
 /* what the framer chip hands over for one frame */
 struct frame {
     uint8_t overhead[OTN_OVERHEAD_BYTES];
-    uint8_t flags, sm_violations, pm_violations;
+    uint8_t flags, sm_violations, pm_violations, tcm_violations[OTN_LEVELS];
 };
 
-/* A made-up line: four seconds of good frames, of a path that is locked, of lost framing, and of good frames again. */
+/* the tandem levels that are watched: a neighbour's part of the path, and our own within it */
+static const uint8_t levels[] = {1, 4};
+#define WATCHED (sizeof levels / sizeof levels[0])
+
+/* A made-up line: five seconds of good frames, of a path that is locked, of lost framing, of good frames again, and of a TCM4 whose
+   source is gone. */
 static struct frame next_frame(unsigned n) {
     static const uint8_t fas[6] = {0xf6, 0xf6, 0xf6, 0x28, 0x28, 0x28};
     unsigned second = n / FRAMES_A_SECOND;
@@ -26,7 +32,9 @@ static struct frame next_frame(unsigned n) {
         f.overhead[6] = (uint8_t)n; /* MFAS */
     }
     if (second == 1) f.overhead[43] = 5; /* path STAT 101 */
-    if (second == 3 && n % 10 == 0) f.sm_violations = 2;
+    f.overhead[40] = 1; /* STAT 001 of TCM1: in use */
+    if (second != 4) f.overhead[28] = 1; /* and of TCM4 */
+    if (second == 3 && n % 10 == 0) f.sm_violations = 2, f.tcm_violations[0] = 1;
     return f;
 }
 
@@ -37,6 +45,11 @@ static void say(unsigned n, uint64_t report) {
     printf("frame %3u: %s;%s%s%s%s%s%s\n", n, head_in_words[otn_head(report)], OTN_IF(report) ? " in frame" : " out of frame",
            OTN_IM(report) ? ", in multiframe" : ", out of multiframe", OTN_CLOF(report) ? ", cause LOF" : "",
            OTN_CLOM(report) ? ", cause LOM" : "", OTN_PATH_CLCK(report) ? ", cause LCK" : "", OTN_PATH_ATSF(report) ? ", path failed" : "");
+}
+
+static void say_level(unsigned n, unsigned level, uint64_t report) {
+    printf("frame %3u: TCM%u: %s%s%s%s\n", n, level, OTN_TCM_ATSF(report) ? "failed" : "clear", OTN_TCM_CSSF(report) ? ", cause SSF" : "",
+           OTN_TCM_CLTC(report) ? ", cause LTC" : "", OTN_TCM_CDEG(report) ? ", cause DEG" : "");
 }
 
 static void close_second(uint8_t *sup) {
@@ -51,8 +64,12 @@ static void close_second(uint8_t *sup) {
         unsigned under = (unsigned)otn_figure(record, OTN_UNDER + head);
         if (under) printf(", %u %s", under, head_in_words[head]);
     }
-    printf("; errored blocks: section %u near, %u far, path %u near, %u far\n", (unsigned)otn_figure(record, OTN_SECTION_NEAR),
+    printf("; errored blocks: section %u near, %u far, path %u near, %u far", (unsigned)otn_figure(record, OTN_SECTION_NEAR),
            (unsigned)otn_figure(record, OTN_SECTION_FAR), (unsigned)otn_figure(record, OTN_PATH_NEAR), (unsigned)otn_figure(record, OTN_PATH_FAR));
+    for (size_t i = 0; i < WATCHED; i++)
+        printf(", TCM%u %u near, %u far", levels[i], (unsigned)otn_level_figure(record, levels[i], OTN_LEVEL_NEAR),
+               (unsigned)otn_level_figure(record, levels[i], OTN_LEVEL_FAR));
+    printf("\n");
 }
 
 int main(void) {
@@ -64,10 +81,20 @@ int main(void) {
         printf("provisioning refused: %u\n", otn_refusal(answer));
         return 1;
     }
-    uint64_t before = 0;
-    for (unsigned n = 0; n < 4 * FRAMES_A_SECOND; n++) {
+    for (size_t i = 0; i < WATCHED; i++) {
+        answer = otn_level(sup, sizeof sup, levels[i], 10, 3, OTN_MODE_OFF, OTN_TIM_DEFAULT, names, sizeof names);
+        if (answer != OTN_ACCEPTED) {
+            printf("provisioning of TCM%u refused: %u\n", levels[i], otn_refusal(answer));
+            return 1;
+        }
+    }
+    uint64_t before = 0, level_before[WATCHED];
+    for (size_t i = 0; i < WATCHED; i++) level_before[i] = otn_level_report(sup, sizeof sup, levels[i]);
+    for (unsigned n = 0; n < 5 * FRAMES_A_SECOND; n++) {
         struct frame f = next_frame(n);
-        uint64_t report = otn_step(sup, sizeof sup, f.overhead, sizeof f.overhead, f.flags, f.sm_violations, f.pm_violations);
+        const uint8_t *t = f.tcm_violations;
+        uint64_t report = otn_step_levels(sup, sizeof sup, f.overhead, sizeof f.overhead, f.flags, f.sm_violations, f.pm_violations,
+                                          t[0], t[1], t[2], t[3], t[4], t[5]);
         if (otn_refusal(report) != OTN_ACCEPTED) {
             printf("frame %u refused: %u\n", n, otn_refusal(report));
             return 1;
@@ -75,6 +102,11 @@ int main(void) {
         report &= ~(15ull << 33 | 15ull << 40); /* what changes with each count is not news */
         if (report != before) say(n, report);
         before = report;
+        for (size_t i = 0; i < WATCHED; i++) {
+            uint64_t level_report = otn_level_report(sup, sizeof sup, levels[i]);
+            if (level_report != level_before[i]) say_level(n, levels[i], level_report);
+            level_before[i] = level_report;
+        }
         if ((n + 1) % FRAMES_A_SECOND == 0) close_second(sup);
     }
     return 0;

@@ -1,7 +1,8 @@
-/* otn.h: a supervisor for the receiving end of one OTUk and the ODUk path in it, k = 1, 2 or 3.
+/* otn.h: a supervisor for the receiving end of one OTUk, the ODUk path in it and its tandem levels TCM1 to TCM6, k = 1, 2 or 3.
 
-   Four calls on numbers and bytes. The supervisor is a buffer of OTN_SUPERVISOR_BYTES that the caller owns: otn_fresh fills it,
-   otn_step takes one frame's overhead, otn_mark closes a second, otn_trace reads an accepted trace. Link with libcard.a.
+   Eight calls on numbers and bytes. The supervisor is a buffer of OTN_SUPERVISOR_BYTES that the caller owns: otn_fresh fills it,
+   otn_level provisions a tandem level, otn_step or otn_step_levels takes one frame's overhead, otn_mark closes a second. otn_trace,
+   otn_level_report and otn_level_trace read it: an accepted trace, and what stands of a level. Link with libcard.a.
 
    Every call takes any bytes and any numbers, and ends. Its answer's low byte is the refusal, 0 where the call is accepted
    (otn_refusal); a refused call changes no byte that it was lent and answers nothing but that number. No check is owed beforehand
@@ -24,12 +25,13 @@
 extern "C" {
 #endif
 
-#define OTN_SUPERVISOR_BYTES 688
+#define OTN_SUPERVISOR_BYTES 2448
 #define OTN_OVERHEAD_BYTES 64
-#define OTN_RECORD_BYTES 80
+#define OTN_RECORD_BYTES 176
 #define OTN_TRACE_BYTES 64
 #define OTN_NAMES_BYTES 32
-#define OTN_STACK_BYTES 512
+#define OTN_STACK_BYTES 1024
+#define OTN_LEVELS 6
 
 /* Refusals, in the order in which they are checked: OTN_BAD_SUPERVISOR first, then by number. */
 enum otn_refusal {
@@ -47,7 +49,9 @@ enum otn_refusal {
     OTN_BAD_LAYER = 11,       /* layer not 0 or 1 */
     OTN_BAD_BUFFER = 12,      /* trace buffer not 64 bytes */
     OTN_NO_TRACE = 13,        /* no accepted trace */
-    OTN_BAD_SUPERVISOR = 17   /* the supervisor's length, or a number in it beyond its range (docs/SUPERVISOR.md) */
+    OTN_LATE = 16,            /* a level provisioned after a frame or a mark */
+    OTN_BAD_SUPERVISOR = 17,  /* the supervisor's length, or a number in it beyond its range (docs/SUPERVISOR.md) */
+    OTN_BAD_LEVEL = 18        /* level not 1 to 6, or given twice */
 };
 
 /* Flags of a frame; both may stand. */
@@ -90,16 +94,35 @@ uint64_t otn_fresh(uint8_t *sup, size_t sup_len, uint8_t k, uint32_t sm_thr, uin
                    uint8_t sm_mode, uint8_t pm_mode, uint8_t sm_dis, uint8_t pm_dis, const uint8_t *sm_names, size_t sm_names_len,
                    const uint8_t *pm_names, size_t pm_names_len);
 
+/* A tandem level, 1 to 6, is watched from here on: after otn_fresh, and ahead of every frame and mark. thr to names as in otn_fresh,
+   with the range of the supervisor's k for thr. A level is watched only if it is provisioned. Refuses 17, then 6 to 10, 16, 18. */
+uint64_t otn_level(uint8_t *sup, size_t sup_len, uint8_t level, uint32_t thr, uint8_t degm, uint8_t mode, uint8_t dis,
+                   const uint8_t *names, size_t names_len);
+
 /* One frame: 64 bytes of overhead, rows 1 to 4 of columns 1 to 16; flags; the BIP-8 violation counts of SM and PM, 0 to 8.
    Refuses 17, then 1 to 4. Accepted: the report, read by the OTN_ functions below. */
 uint64_t otn_step(uint8_t *sup, size_t sup_len, const uint8_t *overhead, size_t overhead_len, uint8_t flags, uint8_t sm, uint8_t pm);
 
-/* A mark: closes the second. Its record is 20 little-endian 32-bit words (OTN_FIGURE below). A record of another length gets the
-   first bytes that it has room for, and bytes beyond 80 are left alone. Refuses 17, then 4. */
+/* The same with the violation counts of TCM1 to TCM6, 0 to 8 each, a level provisioned or not; otn_step is this with six zeros.
+   Refuses 17, then 1 to 4. Accepted: the same report, in which no level has a part; otn_level_report tells of each. */
+uint64_t otn_step_levels(uint8_t *sup, size_t sup_len, const uint8_t *overhead, size_t overhead_len, uint8_t flags, uint8_t sm,
+                         uint8_t pm, uint8_t t1, uint8_t t2, uint8_t t3, uint8_t t4, uint8_t t5, uint8_t t6);
+
+/* A mark: closes the second. Its record is 44 little-endian 32-bit words: 20 of line, section and path (enum otn_figure below), then
+   four of each level 1 to 6 (enum otn_level_figure), zeros where it is not provisioned. A record of another length gets the first
+   bytes that it has room for, and bytes beyond 176 are left alone. Refuses 17, then 4. */
 uint64_t otn_mark(uint8_t *sup, size_t sup_len, uint8_t *record, size_t record_len);
 
 /* The accepted trace of a layer, 64 bytes: SAPI is bytes 0 to 15, DAPI 16 to 31. sup is not changed. Refuses 17, then 11 to 13. */
 uint64_t otn_trace(const uint8_t *sup, size_t sup_len, uint8_t layer, uint8_t *out, size_t out_len);
+
+/* What stands of a level after the last frame and mark, read by the OTN_TCM_ macros below; a level that is not provisioned answers 0.
+   sup is not changed. Refuses 17, then 18. */
+uint64_t otn_level_report(const uint8_t *sup, size_t sup_len, uint8_t level);
+
+/* The accepted trace of a level, 64 bytes as in otn_trace. A level that is not provisioned has none, nor has a number that is no
+   level. sup is not changed. Refuses 17, then 12, 13. */
+uint64_t otn_level_trace(const uint8_t *sup, size_t sup_len, uint8_t level, uint8_t *out, size_t out_len);
 
 /* The refusal of any answer: 0 where the call was accepted. */
 static inline unsigned otn_refusal(uint64_t answer) { return (unsigned)(answer & 0xff); }
@@ -153,6 +176,31 @@ static inline unsigned otn_path_abei(uint64_t report) { return (unsigned)(report
 #define OTN_PATH_CBDI(r) otn_report_bit(r, 54)
 #define OTN_PATH_CSSF(r) otn_report_bit(r, 55)
 
+/* The report of a level, whose SSF is the path's. A mark decides dDEG, and the report has it from then on; all else is as it stands
+   after the last frame. Before the first frame a level that is provisioned has OTN_TCM_PROVISIONED alone. */
+#define OTN_TCM_PROVISIONED(r) otn_report_bit(r, 8)
+#define OTN_TCM_SSF(r) otn_report_bit(r, 9)
+#define OTN_TCM_DLTC(r) otn_report_bit(r, 10)
+#define OTN_TCM_DAIS(r) otn_report_bit(r, 11)
+#define OTN_TCM_DOCI(r) otn_report_bit(r, 12)
+#define OTN_TCM_DLCK(r) otn_report_bit(r, 13)
+#define OTN_TCM_DTIM(r) otn_report_bit(r, 14)
+#define OTN_TCM_DBDI(r) otn_report_bit(r, 15)
+#define OTN_TCM_DIAE(r) otn_report_bit(r, 16)
+#define OTN_TCM_DBIAE(r) otn_report_bit(r, 17)
+#define OTN_TCM_DDEG(r) otn_report_bit(r, 18)
+/* actions */
+#define OTN_TCM_ATSF(r) otn_report_bit(r, 19)
+#define OTN_TCM_ATSD(r) otn_report_bit(r, 20)
+/* causes */
+#define OTN_TCM_CSSF(r) otn_report_bit(r, 21)
+#define OTN_TCM_CLTC(r) otn_report_bit(r, 22)
+#define OTN_TCM_COCI(r) otn_report_bit(r, 23)
+#define OTN_TCM_CLCK(r) otn_report_bit(r, 24)
+#define OTN_TCM_CTIM(r) otn_report_bit(r, 25)
+#define OTN_TCM_CDEG(r) otn_report_bit(r, 26)
+#define OTN_TCM_CBDI(r) otn_report_bit(r, 27)
+
 /* The figures of a closed second, read from a record of OTN_RECORD_BYTES. */
 enum otn_figure {
     OTN_SECOND = 0,       /* its number, from 1 */
@@ -171,6 +219,18 @@ enum otn_figure {
 static inline uint32_t otn_figure(const uint8_t *record, unsigned figure) {
     const uint8_t *b = record + 4 * figure;
     return (uint32_t)b[0] | (uint32_t)b[1] << 8 | (uint32_t)b[2] << 16 | (uint32_t)b[3] << 24;
+}
+
+/* The four figures of a level, 1 to 6, in the same record. */
+enum otn_level_figure {
+    OTN_LEVEL_NEAR = 0,
+    OTN_LEVEL_FAR = 1,
+    OTN_LEVEL_NEAR_DS = 2,
+    OTN_LEVEL_FAR_DS = 3
+};
+
+static inline uint32_t otn_level_figure(const uint8_t *record, unsigned level, unsigned figure) {
+    return otn_figure(record, 20 + 4 * (level - 1) + figure);
 }
 
 #ifdef __cplusplus

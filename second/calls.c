@@ -1,14 +1,18 @@
-/* Drives the card's four calls from a stream of orders on standard input and writes what they answered to standard output.
+/* Drives the card's calls from a stream of orders on standard input and writes what they answered to standard output.
  * Every lent buffer stands between guard bytes; around a call that must not change it, it is compared with a copy.
  *
  * Orders, all little-endian:
  *   F sup  k thr(4) degm thr(4) degm mode mode dis dis  len(2) len(2) names names      otn_fresh
+ *   L sup  level thr(4) degm mode dis  len(2) names                                   otn_level
  *   S sup  len(2) bytes flags sm pm                                                   otn_step
+ *   N sup  len(2) bytes flags sm pm t1 t2 t3 t4 t5 t6                                 otn_step_levels
  *   M sup  room(2) fill                                                               otn_mark
  *   T sup  layer room(2) fill                                                         otn_trace
+ *   P sup  level                                                                      otn_level_report
+ *   U sup  level room(2) fill                                                         otn_level_trace
  *   Z                                                                                 write out what is gathered
  * sup is one byte: 0 the supervisor; 1 it less its last byte; 2 with a byte more; 3 none of it; 4 its right length, all FF bytes.
- * Answer: the word (8), a byte of complaints (0: none), and for M and T the lent buffer as it is after the call. */
+ * Answer: the word (8), a byte of complaints (0: none), and for M, T and U the lent buffer as it is after the call. */
 #include "otn.h"
 #include <stdio.h>
 #include <stdlib.h>
@@ -121,7 +125,7 @@ int main(void)
         uint64_t answer;
         uint8_t complaints = 0;
         int shows = 0;
-        lend(&b, 0);
+        lend(&a, 0), lend(&b, 0);
         if (order == 'F') {
             const uint8_t k = byte();
             const uint32_t sm_thr = number(4);
@@ -134,22 +138,44 @@ int main(void)
             answer = otn_fresh(s->bytes, s->len, k, sm_thr, sm_degm, pm_thr, pm_degm, sm_mode, pm_mode, sm_dis, pm_dis, a.bytes,
                                a.len, b.bytes, b.len);
             if (changed(&a) || changed(&b)) complaints |= INPUT_CHANGED;
-        } else if (order == 'S') {
+        } else if (order == 'L') {
+            const uint8_t level = byte();
+            const uint32_t thr = number(4);
+            const uint8_t degm = byte(), mode = byte(), dis = byte();
+            lend(&a, number(2));
+            take(&a);
+            answer = otn_level(s->bytes, s->len, level, thr, degm, mode, dis, a.bytes, a.len);
+            if (changed(&a)) complaints |= INPUT_CHANGED;
+        } else if (order == 'S' || order == 'N') {
             lend(&a, number(2));
             take(&a);
             const uint8_t flags = byte(), sm = byte(), pm = byte();
-            answer = otn_step(s->bytes, s->len, a.bytes, a.len, flags, sm, pm);
+            if (order == 'S')
+                answer = otn_step(s->bytes, s->len, a.bytes, a.len, flags, sm, pm);
+            else {
+                uint8_t t[6];
+                for (int i = 0; i < 6; i++) t[i] = byte();
+                answer = otn_step_levels(s->bytes, s->len, a.bytes, a.len, flags, sm, pm, t[0], t[1], t[2], t[3], t[4], t[5]);
+            }
             if (changed(&a)) complaints |= INPUT_CHANGED;
-        } else if (order == 'M' || order == 'T') {
-            const uint8_t layer = order == 'T' ? byte() : 0;
+        } else if (order == 'M' || order == 'T' || order == 'U') {
+            const uint8_t of = order == 'M' ? 0 : byte();
             lend(&a, number(2));
             const uint8_t fill = byte();
             memset(a.bytes, fill, a.len);
             remember(&a);
-            answer = order == 'M' ? otn_mark(s->bytes, s->len, a.bytes, a.len) : otn_trace(s->bytes, s->len, layer, a.bytes, a.len);
+            if (order == 'M')
+                answer = otn_mark(s->bytes, s->len, a.bytes, a.len);
+            else if (order == 'T')
+                answer = otn_trace(s->bytes, s->len, of, a.bytes, a.len);
+            else
+                answer = otn_level_trace(s->bytes, s->len, of, a.bytes, a.len);
             if ((answer & 255) && changed(&a)) complaints |= BUFFER_CHANGED;
-            if (order == 'T' && changed(s)) complaints |= SUPERVISOR_CHANGED;
+            if (order != 'M' && changed(s)) complaints |= SUPERVISOR_CHANGED;
             shows = 1;
+        } else if (order == 'P') {
+            answer = otn_level_report(s->bytes, s->len, byte());
+            if (changed(s)) complaints |= SUPERVISOR_CHANGED;
         } else
             exit(6);
         if ((answer & 255) && changed(s)) complaints |= SUPERVISOR_CHANGED;

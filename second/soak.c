@@ -1,4 +1,4 @@
-/* Any bytes and any numbers to the card's four calls.
+/* Any bytes and any numbers to the card's calls.
  *
  *     soak SEED CALLS
  *
@@ -6,7 +6,8 @@
  * it ends the run, whatever the library was built with. Held for each call:
  *   - it ends, with a refusal number that the call may answer, and by the order of the numbers where the supervisor is sound;
  *   - a refusal is its number and nothing else, and the supervisor and every lent buffer keep their contents;
- *   - an accepted call answers nothing in bits 0 to 7 and 56 to 63, a head of 0 to 9, and leaves a supervisor that is accepted again;
+ *   - an accepted frame answers nothing in bits 0 to 7 and 56 to 63 and a head of 0 to 9, a level's report bits 8 to 27 alone, any other
+ *     call 0; and it leaves a supervisor that is accepted again;
  *   - what is lent to be read is not written.
  * The supervisors: fresh ones stepped on, ones with some bytes changed (these go on too, if accepted), and noise of any length. */
 #define _DEFAULT_SOURCE
@@ -17,7 +18,7 @@
 #include <string.h>
 #include <sys/mman.h>
 
-enum { PAGE = 4096, PAGES = 4, BESIDE = 128, SUP = OTN_SUPERVISOR_BYTES, MOST = 2 * SUP + 200 };
+enum { PAGE = 4096, PAGES = 8, BESIDE = 128, SUP = OTN_SUPERVISOR_BYTES, MOST = 2 * SUP + 200 };
 
 static uint64_t state;
 static uint64_t next(void)
@@ -68,7 +69,8 @@ static int around(const struct lent *l)
     return memcmp(l->at_start ? l->bytes + l->len : l->bytes - BESIDE, c3, BESIDE) == 0;
 }
 
-static uint64_t calls, answered[18], traces_read;
+enum { FRESH, LEVEL, STEP, STEP_LEVELS, MARK, TRACE, LEVEL_REPORT, LEVEL_TRACE };
+static uint64_t calls, answered[20], traces_read, level_traces_read;
 static uint8_t count;
 static uint64_t seed;
 static void fail(const char *call, uint64_t answer, const char *what)
@@ -88,7 +90,8 @@ static uint64_t call(uint8_t *sup, size_t len, int sound, int order)
     int reads_a = 1;
     calls++;
     lend(&b_lent, NULL, 0);
-    if (order == 0) {
+    lend(&a_lent, NULL, 0);
+    if (order == FRESH) {
         name = "otn_fresh";
         const uint8_t k = below(8) ? 1 + below(3) : (uint8_t)next();
         const uint32_t ceiling = k == 1 ? 20420 : k == 2 ? 82025 : 329492;
@@ -118,8 +121,21 @@ static uint64_t call(uint8_t *sup, size_t len, int sound, int order)
                            b_lent.bytes, n[1]);
         if (answer != expected) fail(name, answer, "another refusal was due");
         may = 1 << answer;
-    } else if (order == 1) {
-        name = "otn_step";
+    } else if (order == LEVEL) {
+        name = "otn_level";
+        const uint8_t level = below(8) ? 1 + below(6) : (uint8_t)next();
+        const uint32_t thr = below(12) ? 1 + below(below(2) ? 4 : 20420) : (uint32_t)(next() >> below(64));
+        const uint8_t degm = below(12) ? 2 + below(9) : (uint8_t)next(), mode = below(12) ? below(4) : (uint8_t)next();
+        const uint8_t dis = below(12) ? below(3) : (uint8_t)next();
+        lend(&a_lent, NULL, below(12) ? 32 : below(70));
+        /* a threshold above 20,420 may be right for k = 2 and 3, a level may be given, and a frame or a mark accepted */
+        expected = thr < 1 || thr > 329492 ? 6 : degm < 2 || degm > 10 ? 7 : mode > 3 ? 8 : dis > 2 ? 9 : a_lent.len != 32 ? 10 : 0;
+        const int may_be_6 = thr > 20420;
+        answer = otn_level(s, len, level, thr, degm, mode, dis, a_lent.bytes, a_lent.len);
+        may = 1 << 17 | 1 << expected | (may_be_6 ? 1 << 6 : 0) | (expected ? 0 : 1 << 16 | 1 << 18);
+        if (!expected && (level < 1 || level > 6)) may &= ~1u;
+    } else if (order == STEP || order == STEP_LEVELS) {
+        name = order == STEP ? "otn_step" : "otn_step_levels";
         uint8_t overhead[200];
         const size_t n = below(20) ? 64 : below(200);
         for (size_t i = 0; i < n; i++) overhead[i] = (uint8_t)next();
@@ -129,22 +145,48 @@ static uint64_t call(uint8_t *sup, size_t len, int sound, int order)
             overhead[6] = steady || below(20) ? count : (uint8_t)next();
             if (steady || below(4)) overhead[7] = overhead[41] = 0;
             if (steady || below(3)) overhead[9] = overhead[43] = 0;
+            for (int l = 1; l <= 6; l++) {
+                const int at = l <= 3 ? 41 - 3 * l : 38 - 3 * l;
+                if (steady || below(4)) overhead[at] = (uint8_t)l;
+                if (steady || below(3)) overhead[at + 2] = 1;
+            }
         }
         lend(&a_lent, overhead, n);
         const uint8_t flags = steady ? below(40) ? 0 : 4 + below(252) : below(6) ? 0 : below(2) ? small[below(16)] : (uint8_t)next();
         const uint8_t sm = below(3) ? 0 : small[below(16)], pm = below(3) ? 0 : small[below(16)];
-        expected = n != 64 ? 1 : flags > 3 ? 2 : sm > 8 || pm > 8 ? 3 : 0;
-        answer = otn_step(s, len, a_lent.bytes, n, flags, sm, pm);
+        uint8_t t[6];
+        int high = 0;
+        for (int i = 0; i < 6; i++) high |= (t[i] = below(6) ? below(9) : small[below(16)]) > 8;
+        expected = n != 64 ? 1 : flags > 3 ? 2 : sm > 8 || pm > 8 || (order == STEP_LEVELS && high) ? 3 : 0;
+        if (order == STEP)
+            answer = otn_step(s, len, a_lent.bytes, n, flags, sm, pm);
+        else
+            answer = otn_step_levels(s, len, a_lent.bytes, n, flags, sm, pm, t[0], t[1], t[2], t[3], t[4], t[5]);
         may = 1 << 17 | 1 << expected | (expected ? 0 : 1 << 4);
         if (sound && !(answer & 255)) count++; /* the sound one's MFAS goes on */
-    } else if (order == 2) {
+    } else if (order == MARK) {
         name = "otn_mark";
-        lend(&a_lent, NULL, below(2) ? 80 : below(200));
+        lend(&a_lent, NULL, below(2) ? OTN_RECORD_BYTES : below(300));
         answer = otn_mark(s, len, a_lent.bytes, a_lent.len);
         may = 1 << 17 | 1 << 0 | 1 << 4;
         reads_a = 0;
-        if (answer == 0 && a_lent.len > 80 && memcmp(a_lent.bytes + 80, a_lent.copy + 80, a_lent.len - 80))
+        const size_t past = OTN_RECORD_BYTES;
+        if (answer == 0 && a_lent.len > past && memcmp(a_lent.bytes + past, a_lent.copy + past, a_lent.len - past))
             fail(name, answer, "bytes past the record were written");
+    } else if (order == LEVEL_REPORT) {
+        name = "otn_level_report";
+        const uint8_t level = below(4) ? 1 + below(6) : (uint8_t)next();
+        expected = level < 1 || level > 6 ? 18 : 0;
+        answer = otn_level_report(s, len, level);
+        may = 1 << 17 | 1 << expected;
+    } else if (order == LEVEL_TRACE) {
+        name = "otn_level_trace";
+        const uint8_t level = below(4) ? 1 + below(6) : (uint8_t)next();
+        lend(&a_lent, NULL, below(3) ? 64 : below(200));
+        expected = a_lent.len != 64 ? 12 : level < 1 || level > 6 ? 13 : 0;
+        answer = otn_level_trace(s, len, level, a_lent.bytes, a_lent.len);
+        may = 1 << 17 | 1 << expected | (expected ? 0 : 1 << 13);
+        reads_a = 0;
     } else {
         name = "otn_trace";
         const uint8_t layer = below(4) ? below(2) : (uint8_t)next();
@@ -155,19 +197,22 @@ static uint64_t call(uint8_t *sup, size_t len, int sound, int order)
         reads_a = 0;
     }
     const unsigned refusal = answer & 255;
-    if (refusal > 17 || !(may >> refusal & 1)) fail(name, answer, "this refusal was not due");
-    if (order != 0 && len != SUP && refusal != 17) fail(name, answer, "the supervisor's length is wrong");
+    if (refusal > 19 || !(may >> refusal & 1)) fail(name, answer, "this refusal was not due");
+    if (order != FRESH && len != SUP && refusal != 17) fail(name, answer, "the supervisor's length is wrong");
     if (sound && refusal == 17) fail(name, answer, "no history from fresh meets 17");
     if (refusal && answer != refusal) fail(name, answer, "a refusal answers its number and nothing else");
-    if (answer >> 56 || (answer >> 8 & 15) > 9) fail(name, answer, "bits that cannot stand");
-    if (order != 1 && !refusal && answer) fail(name, answer, "only a step reports");
+    const int steps = order == STEP || order == STEP_LEVELS, only_reads = order >= TRACE;
+    if (steps && (answer >> 56 || (answer >> 8 & 15) > 9)) fail(name, answer, "bits that cannot stand");
+    if (order == LEVEL_REPORT && (answer >> 28 || (!refusal && answer && !(answer >> 8 & 1)))) fail(name, answer, "bits that cannot stand");
+    if (!steps && order != LEVEL_REPORT && !refusal && answer) fail(name, answer, "only a frame and a level's report report");
     if (refusal && !kept(&sup_lent)) fail(name, answer, "a refused call changed the supervisor");
-    if (order == 3 && !kept(&sup_lent)) fail(name, answer, "reading a trace changed the supervisor");
+    if (only_reads && !kept(&sup_lent)) fail(name, answer, "a reading changed the supervisor");
     if ((refusal || reads_a) && !kept(&a_lent)) fail(name, answer, "a lent buffer was changed");
     if (!kept(&b_lent)) fail(name, answer, "a lent buffer was changed");
     if (!around(&sup_lent) || !around(&a_lent) || !around(&b_lent)) fail(name, answer, "bytes beside a lent buffer were written");
     answered[refusal]++;
-    traces_read += order == 3 && !refusal;
+    traces_read += order == TRACE && !refusal;
+    level_traces_read += order == LEVEL_TRACE && !refusal;
     if (!refusal) {
         memcpy(sup, s, len);
         uint8_t none[1];
@@ -184,12 +229,16 @@ int main(int argc, char **argv)
     open_lent(&sup_lent), open_lent(&a_lent), open_lent(&b_lent);
     static uint8_t sound[SUP], other[MOST];
     uint64_t mutated = 0, mutated_accepted = 0;
-    while (call(sound, SUP, 0, 0) != 0) {}
+    while (call(sound, SUP, 0, FRESH) != 0) {}
     while (calls < wanted) {
         const uint64_t sort = below(100);
         if (sort < 70) { /* on with the sound one */
             const uint64_t o = below(400);
-            call(sound, SUP, 1, o == 0 ? 0 : o < 360 ? 1 : o < 380 ? 2 : 3);
+            if (o == 0) { /* anew, with some levels */
+                if (call(sound, SUP, 1, FRESH) == 0)
+                    for (uint64_t n = below(10); n; n--) call(sound, SUP, 1, LEVEL);
+            } else
+                call(sound, SUP, 1, o < 180 ? STEP : o < 350 ? STEP_LEVELS : o < 365 ? MARK : o < 370 ? LEVEL : TRACE + (int)below(3));
         } else if (sort < 90) { /* a changed one, and on with it */
             memcpy(other, sound, SUP);
             for (uint64_t n = 1 + below(3); n; n--) {
@@ -198,7 +247,7 @@ int main(int argc, char **argv)
             }
             mutated++;
             for (uint64_t n = 1 + below(20); n; n--) {
-                const uint64_t answer = call(other, SUP, 0, 1 + below(3)) & 255;
+                const uint64_t answer = call(other, SUP, 0, 1 + (int)below(7)) & 255;
                 if (answer == 17) break;
                 mutated_accepted += answer == 0;
             }
@@ -206,13 +255,14 @@ int main(int argc, char **argv)
             const size_t len = below(3) ? SUP : below(MOST);
             const int fill = (int)below(3);
             for (size_t i = 0; i < len; i++) other[i] = fill == 0 ? 0 : fill == 1 ? 0xFF : (uint8_t)next();
-            call(other, len, 0, (int)below(4));
+            call(other, len, 0, (int)below(8));
         }
     }
     printf("soak: seed %" PRIu64 ", %" PRIu64 " calls, %" PRIu64 " changed supervisors (%" PRIu64 " calls accepted on them), %" PRIu64
-           " traces read\nanswers 0 to 17:",
-           seed, calls, mutated, mutated_accepted, traces_read);
-    for (int i = 0; i < 18; i++) printf(" %" PRIu64, answered[i]);
+           " traces and %" PRIu64
+           " of levels read\nanswers 0 to 19:",
+           seed, calls, mutated, mutated_accepted, traces_read, level_traces_read);
+    for (int i = 0; i < 20; i++) printf(" %" PRIu64, answered[i]);
     printf("\n");
     return 0;
 }

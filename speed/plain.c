@@ -14,11 +14,30 @@ uint64_t plain_fresh(struct plain *p, uint8_t k, uint32_t sm_thr, uint8_t sm_deg
     if (sm_names_len != 32 || pm_names_len != 32) return 10;
     memset(p, 0, sizeof *p);
     p->n = n[k];
+    p->ceiling = ceiling[k];
     struct plain_layer *s = &p->layer[0], *t = &p->layer[1];
     s->degthr = sm_thr, s->degm = sm_degm, s->mode = sm_mode, s->dis = sm_dis, s->acts = sm_dis != 1;
     t->degthr = pm_thr, t->degm = pm_degm, t->mode = pm_mode, t->dis = pm_dis, t->acts = pm_dis != 1;
     memcpy(s->names, sm_names, 32);
     memcpy(t->names, pm_names, 32);
+    for (int i = 0; i < 6; i++) p->level[i].layer.degthr = 1, p->level[i].layer.degm = 2;
+    return 0;
+}
+
+uint64_t plain_level(struct plain *p, uint8_t level, uint32_t thr, uint8_t degm, uint8_t mode, uint8_t dis, const uint8_t *names,
+                     size_t names_len)
+{
+    if (thr < 1 || thr > p->ceiling) return 6;
+    if (degm < 2 || degm > 10) return 7;
+    if (mode > 3) return 8;
+    if (dis > 2) return 9;
+    if (names_len != 32) return 10;
+    if (p->frames || p->closed) return 16;
+    if (level < 1 || level > 6 || p->given >> (level - 1) & 1) return 18;
+    struct plain_layer *l = &p->level[level - 1].layer;
+    l->degthr = thr, l->degm = degm, l->mode = mode, l->dis = dis, l->acts = dis != 1;
+    memcpy(l->names, names, 32);
+    p->given |= 1 << (level - 1);
     return 0;
 }
 
@@ -112,11 +131,55 @@ static inline void align(struct plain *p, const uint8_t *o)
         p->oom_run++;
 }
 
-uint64_t plain_step(struct plain *p, const uint8_t *o, size_t len, uint8_t flags, uint8_t sm, uint8_t pm)
+/* A level's STAT: what of it is which defect, and which of them stop its counts. */
+enum { LTC = 1 << 0, IAE = 1 << 2, LCK = 1 << 5, OCI = 1 << 6, AIS = 1 << 7, STOPS = LTC | LCK | OCI | AIS };
+
+/* One level: b is its trace byte, its BIP-8 and its status. */
+static void tandem(struct plain_tandem *v, const uint8_t *b, unsigned ssf, unsigned in_multiframe, unsigned number, unsigned violations)
+{
+    struct plain_layer *l = &v->layer;
+    const unsigned stat = b[2] & 7, bei = b[2] >> 4;
+    if (ssf)
+        v->stat_run = v->stat = 0;
+    else if (v->stat_run == 0 || stat != v->stat_value) {
+        v->stat_value = stat;
+        v->stat_run = 1;
+    } else if (v->stat_run < 3 && ++v->stat_run == 3)
+        v->stat = 1 << stat;
+
+    const unsigned forget = ssf || v->stat & AIS;
+    if (forget) {
+        forget_layer(l);
+    } else {
+        if (in_multiframe)
+            gather(l, number, b[0]);
+        else
+            forget_cycles(l);
+        filter(&l->bdi, b[2] >> 3 & 1, 5);
+    }
+    const unsigned tim = l->trace.differs, stopped = ssf || v->stat & STOPS;
+    if (forget || tim)
+        memset(&v->biae, 0, sizeof v->biae);
+    else
+        filter(&v->biae, bei == 11, 3);
+
+    if (!stopped) {
+        l->near += violations > 0;
+        l->far += bei - 1u < 8;
+    }
+    l->near_ds |= stopped || tim;
+    l->far_ds |= l->bdi.stands;
+    v->iae_stood |= v->stat & IAE && !tim;
+    v->biae_stood |= v->biae.stands;
+}
+
+static inline uint64_t step(struct plain *p, const uint8_t *o, size_t len, uint8_t flags, uint8_t sm, uint8_t pm, const uint8_t tcm[6])
 {
     if (len != 64) return 1;
     if (flags > 3) return 2;
     if (sm > 8 || pm > 8) return 3;
+    for (int i = 0; i < 6; i++)
+        if (tcm[i] > 8) return 3;
     if (p->frames == 400000) return 4;
 
     struct plain_layer *s = &p->layer[0], *t = &p->layer[1];
@@ -191,6 +254,12 @@ uint64_t plain_step(struct plain *p, const uint8_t *o, size_t len, uint8_t flags
     p->iae_stood |= p->iae.stands;
     p->biae_stood |= p->biae.stands;
 
+    /* the levels */
+    static const uint8_t field[6] = {38, 35, 32, 26, 23, 20};
+    p->ssf = pssf;
+    for (int i = 0; p->given >> i; i++)
+        if (p->given >> i & 1) tandem(&p->level[i], o + field[i], pssf, p->in_multiframe, number, tcm[i]);
+
     /* the report */
     const uint64_t sbdi = s->bdi.stands, pbdi = t->bdi.stands, iae = p->iae.stands, biae = p->biae.stands;
     const uint64_t sdeg = s->deg.stands, pdeg = t->deg.stands, sfail = ssf || sacts, pfail = above || pacts;
@@ -203,18 +272,39 @@ uint64_t plain_step(struct plain *p, const uint8_t *o, size_t len, uint8_t flags
            (pdeg & !pfail) << 53 | (pbdi & !pfail) << 54 | (pssf | ais) << 55;
 }
 
-uint64_t plain_mark(struct plain *p, uint32_t record[20])
+uint64_t plain_step(struct plain *p, const uint8_t *o, size_t len, uint8_t flags, uint8_t sm, uint8_t pm)
+{
+    static const uint8_t none[6];
+    return step(p, o, len, flags, sm, pm, none);
+}
+
+uint64_t plain_step_levels(struct plain *p, const uint8_t *o, size_t len, uint8_t flags, uint8_t sm, uint8_t pm, const uint8_t tcm[6])
+{
+    return step(p, o, len, flags, sm, pm, tcm);
+}
+
+uint64_t plain_mark(struct plain *p, uint32_t record[44])
 {
     if (p->closed == UINT32_MAX) return 4;
     struct plain_layer *s = &p->layer[0];
     if (p->iae_stood) s->near = s->near_ds = 0;
     if (p->iae_stood || p->biae_stood) s->far = s->far_ds = 0;
+    for (int i = 0; i < 6; i++) {
+        struct plain_tandem *v = &p->level[i];
+        if (v->iae_stood) v->layer.near = v->layer.near_ds = 0;
+        if (v->iae_stood || v->biae_stood) v->layer.far = v->layer.far_ds = 0;
+        v->iae_stood = v->biae_stood = 0;
+    }
     record[0] = ++p->closed;
     record[1] = p->frames;
     memcpy(record + 2, p->heads, sizeof p->heads);
-    for (int i = 0; i < 2; i++) {
-        struct plain_layer *l = &p->layer[i];
+    for (int i = 0; i < 2 + 6; i++) {
+        struct plain_layer *l = i < 2 ? &p->layer[i] : &p->level[i - 2].layer;
         uint32_t *r = record + 12 + 4 * i;
+        if (i >= 2 && !(p->given >> (i - 2) & 1)) {
+            memset(r, 0, 4 * sizeof *r);
+            continue;
+        }
         r[0] = l->near, r[1] = l->far, r[2] = l->near_ds, r[3] = l->far_ds;
         filter(&l->deg, l->near >= l->degthr, l->degm);
         l->near = l->far = l->near_ds = l->far_ds = 0;
@@ -230,5 +320,27 @@ uint64_t plain_trace(const struct plain *p, uint8_t layer, uint8_t *out, size_t 
     if (len != 64) return 12;
     if (!p->layer[layer].trace.has) return 13;
     memcpy(out, p->layer[layer].trace.accepted, 64);
+    return 0;
+}
+
+uint64_t plain_level_report(const struct plain *p, uint8_t level)
+{
+    if (level < 1 || level > 6) return 18;
+    if (!(p->given >> (level - 1) & 1)) return 0;
+    const struct plain_tandem *v = &p->level[level - 1];
+    const struct plain_layer *l = &v->layer;
+    const uint64_t ssf = p->ssf, ltc = !!(v->stat & LTC), ais = !!(v->stat & AIS), oci = !!(v->stat & OCI), lck = !!(v->stat & LCK);
+    const uint64_t tim = l->trace.differs, iae = v->stat & IAE && !tim, biae = v->biae.stands, bdi = l->bdi.stands, deg = l->deg.stands;
+    const uint64_t stopped = ssf || v->stat & STOPS, fail = stopped || (tim && l->acts);
+    return 1 << 8 | ssf << 9 | ltc << 10 | ais << 11 | oci << 12 | lck << 13 | tim << 14 | bdi << 15 | iae << 16 | biae << 17 | deg << 18 |
+           fail << 19 | deg << 20 | (ssf | ais) << 21 | (ltc & !ssf) << 22 | (oci & !ssf) << 23 | (lck & !ssf) << 24 |
+           (tim & !stopped) << 25 | (deg & !fail) << 26 | (bdi & !fail) << 27;
+}
+
+uint64_t plain_level_trace(const struct plain *p, uint8_t level, uint8_t *out, size_t len)
+{
+    if (len != 64) return 12;
+    if (level < 1 || level > 6 || !(p->given >> (level - 1) & 1) || !p->level[level - 1].layer.trace.has) return 13;
+    memcpy(out, p->level[level - 1].layer.trace.accepted, 64);
     return 0;
 }

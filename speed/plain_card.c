@@ -16,14 +16,22 @@ static int layer_in_range(const struct plain_layer *l, uint32_t ceiling)
            l->acts <= 1 && filter_in_range(&l->deg, 10) && l->near_ds <= 1 && l->far_ds <= 1;
 }
 
+static int level_in_range(const struct plain_tandem *v, uint32_t ceiling)
+{
+    return layer_in_range(&v->layer, ceiling) && filter_in_range(&v->biae, 3) && v->stat_value <= 7 && v->stat_run <= 3 &&
+           (v->stat & (v->stat - 1)) == 0 && v->iae_stood <= 1 && v->biae_stood <= 1;
+}
+
 static int in_range(const struct plain *p)
 {
     const uint32_t ceiling = p->n == 62 ? 20420 : p->n == 247 ? 82025 : p->n == 989 ? 329492 : 0;
-    return ceiling != 0 && p->oof_total <= p->n && p->if_run <= p->n && p->oom_run <= p->n && p->in_frame <= 1 &&
-           p->fas_run <= 4 && p->in_multiframe <= 1 && p->mismatches <= 4 && p->previous_known <= 1 &&
+    for (int i = 0; i < 6; i++)
+        if (!level_in_range(&p->level[i], ceiling)) return 0;
+    return ceiling != 0 && p->ceiling == ceiling && p->oof_total <= p->n && p->if_run <= p->n && p->oom_run <= p->n &&
+           p->in_frame <= 1 && p->fas_run <= 4 && p->in_multiframe <= 1 && p->mismatches <= 4 && p->previous_known <= 1 &&
            filter_in_range(&p->iae, 5) && filter_in_range(&p->biae, 3) && p->stat_value <= 7 && p->stat_run <= 3 &&
            p->stat <= 7 && layer_in_range(&p->layer[0], ceiling) && layer_in_range(&p->layer[1], ceiling) &&
-           p->iae_stood <= 1 && p->biae_stood <= 1 && p->frames <= 400000;
+           p->given <= 63 && p->ssf <= 1 && p->iae_stood <= 1 && p->biae_stood <= 1 && p->frames <= 400000;
 }
 
 static int load(struct plain *p, const uint8_t *sup, size_t len)
@@ -50,6 +58,16 @@ uint64_t otn_fresh(uint8_t *sup, size_t sup_len, uint8_t k, uint32_t sm_thr, uin
     return answer;
 }
 
+uint64_t otn_level(uint8_t *sup, size_t sup_len, uint8_t level, uint32_t thr, uint8_t degm, uint8_t mode, uint8_t dis,
+                   const uint8_t *names, size_t names_len)
+{
+    struct plain p;
+    if (load(&p, sup, sup_len)) return 17;
+    const uint64_t answer = plain_level(&p, level, thr, degm, mode, dis, names, names_len);
+    if (answer == 0) memcpy(sup, &p, sizeof p);
+    return answer;
+}
+
 uint64_t otn_step(uint8_t *sup, size_t sup_len, const uint8_t *overhead, size_t overhead_len, uint8_t flags, uint8_t sm,
                   uint8_t pm)
 {
@@ -60,14 +78,25 @@ uint64_t otn_step(uint8_t *sup, size_t sup_len, const uint8_t *overhead, size_t 
     return answer;
 }
 
+uint64_t otn_step_levels(uint8_t *sup, size_t sup_len, const uint8_t *overhead, size_t overhead_len, uint8_t flags, uint8_t sm,
+                         uint8_t pm, uint8_t t1, uint8_t t2, uint8_t t3, uint8_t t4, uint8_t t5, uint8_t t6)
+{
+    struct plain p;
+    const uint8_t tcm[6] = {t1, t2, t3, t4, t5, t6};
+    if (load(&p, sup, sup_len)) return 17;
+    const uint64_t answer = plain_step_levels(&p, overhead, overhead_len, flags, sm, pm, tcm);
+    if ((answer & 255) == 0) memcpy(sup, &p, sizeof p);
+    return answer;
+}
+
 uint64_t otn_mark(uint8_t *sup, size_t sup_len, uint8_t *record, size_t record_len)
 {
     struct plain p;
-    uint32_t figures[20];
+    uint32_t figures[44];
     if (load(&p, sup, sup_len)) return 17;
     const uint64_t answer = plain_mark(&p, figures);
     if (answer) return answer;
-    for (size_t i = 0; i < 80 && i < record_len; i++) record[i] = (uint8_t)(figures[i / 4] >> 8 * (i % 4));
+    for (size_t i = 0; i < 176 && i < record_len; i++) record[i] = (uint8_t)(figures[i / 4] >> 8 * (i % 4));
     memcpy(sup, &p, sizeof p);
     return 0;
 }
@@ -77,4 +106,18 @@ uint64_t otn_trace(const uint8_t *sup, size_t sup_len, uint8_t layer, uint8_t *o
     struct plain p;
     if (load(&p, sup, sup_len)) return 17;
     return plain_trace(&p, layer, out, out_len);
+}
+
+uint64_t otn_level_report(const uint8_t *sup, size_t sup_len, uint8_t level)
+{
+    struct plain p;
+    if (load(&p, sup, sup_len)) return 17;
+    return plain_level_report(&p, level);
+}
+
+uint64_t otn_level_trace(const uint8_t *sup, size_t sup_len, uint8_t level, uint8_t *out, size_t out_len)
+{
+    struct plain p;
+    if (load(&p, sup, sup_len)) return 17;
+    return plain_level_trace(&p, level, out, out_len);
 }

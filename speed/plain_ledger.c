@@ -53,7 +53,9 @@ static uint32_t word(const uint8_t *b) { return b[0] | b[1] << 8 | b[2] << 16 | 
 int main(void)
 {
     static struct plain p;
+    static const uint8_t lengths[6] = {0, 69, 2, 81, 42, 75}; /* by kind */
     int provisioned = 0;
+    unsigned uses = 0; /* the kind of its frames, 1 or 5 */
     uint64_t marks = 0, frames = 0, offset = 0, refused = 0;
     size_t left;
     while ((left = have(4)) > 0) {
@@ -62,7 +64,7 @@ int main(void)
             break;
         }
         const unsigned length = buffer[from] | buffer[from + 1] << 8, kind = buffer[from + 2] | buffer[from + 3] << 8;
-        if (!((kind == 1 && length == 69) || (kind == 2 && length == 2) || (kind == 3 && length == 81))) {
+        if (kind < 1 || kind > 5 || length != lengths[kind]) {
             refused = 15;
             break;
         }
@@ -71,22 +73,36 @@ int main(void)
             break;
         }
         const uint8_t *b = buffer + from + 4;
-        if (provisioned == (kind == 3)) {
+        if (provisioned == (kind == 3) || (kind == 4 && frames + marks > 0)) {
             refused = 16;
             break;
         }
-        if (kind == 1) {
-            const uint64_t answer = plain_step(&p, b, 64, b[64], b[65], b[66]);
+        if (kind == 1 || kind == 5) {
+            if (uses && uses != kind) {
+                refused = 19;
+                break;
+            }
+            const uint64_t answer = kind == 1 ? plain_step(&p, b, 64, b[64], b[65], b[66])
+                                              : plain_step_levels(&p, b, 64, b[64], b[65], b[66], b + 67);
             if ((refused = answer & 255)) break;
+            uses = kind;
             frames++;
         } else if (kind == 2) {
-            uint32_t record[20];
+            uint32_t record[44];
             if ((refused = plain_mark(&p, record))) break;
             marks++;
-            if (written > sizeof text - 512) flush();
+            if (written > sizeof text - 1024) flush();
             put('S');
             for (int i = 0; i < 20; i++) number(record[i]);
+            for (int i = 0; i < 24; i++)
+                if (p.given >> i / 4 & 1) number(record[20 + i]);
             put('\n');
+        } else if (kind == 4) {
+            if (b[0] < 1 || b[0] > 6 || p.given >> (b[0] - 1) & 1) {
+                refused = 18;
+                break;
+            }
+            if ((refused = plain_level(&p, b[0], word(b + 1), b[5], b[6], b[7], b + 8, 32))) break;
         } else {
             refused = plain_fresh(&p, b[0], word(b + 1), b[5], word(b + 6), b[10], b[11], b[12], b[13], b[14], b + 15, 32, b + 47, 32);
             if (refused) break;
@@ -95,7 +111,7 @@ int main(void)
         from += length + 2;
         offset += length + 2;
     }
-    if (written > sizeof text - 512) flush();
+    if (written > sizeof text - 1024) flush();
     if (refused) {
         put('R');
         number(refused);

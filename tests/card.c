@@ -11,9 +11,14 @@
 #define GUARD 16
 #define ALL OTN_SUPERVISOR_BYTES
 
-/* offsets that are written or looked at here: of the line, and within a layer's record */
-enum { CLOSED = 28, ALIGNMENT = 32, LOCAL = 36, SECOND = 64, RECORDS = 112, RECORD = 288 };
-enum { DDEG = 7, STATE = 32, GATHERING = 33, DS = 45, ACCEPTED = 64, GATHERED = 128, PREVIOUS = 192, NAMES = 256 };
+/* offsets that are written or looked at here: of the line, of what is kept of all levels, and within a layer's or a level's record */
+enum { CLOSED = 28, ALIGNMENT = 32, LOCAL = 36, SECOND = 64, RECORDS = 112, RECORD = 288, FLAGS = 688, GIVEN = 689, LEVELS = 720 };
+enum { DDEG = 7, STATE = 32, GATHERING = 33, DS = 45, NEAR = 56, FAR = 60, ACCEPTED = 64, GATHERED = 128, PREVIOUS = 192, NAMES = 256 };
+
+/* the records of section, path and levels 1 to 6, and where a frame has their three bytes: trace, BIP-8, status */
+enum { WATCHED = 2 + OTN_LEVELS };
+static const uint8_t field[WATCHED] = {7, 41, 38, 35, 32, 26, 23, 20};
+static size_t record_at(int i) { return (size_t)(i < 2 ? RECORDS + RECORD * i : LEVELS + RECORD * (i - 2)); }
 
 static int checks, failed;
 static uint8_t room[GUARD + OTN_SUPERVISOR_BYTES + GUARD];
@@ -35,37 +40,67 @@ static uint64_t fresh(size_t len, uint8_t k, uint32_t st, uint8_t sd, uint32_t p
 
 static uint64_t plain(uint8_t k) { return fresh(ALL, k, 1, 2, 1, 2, 0, 0, 0, 0, 32, 32); }
 
+static uint64_t level(uint8_t n, uint32_t thr, uint8_t degm, uint8_t mode, uint8_t dis, size_t len) {
+    return otn_level(sup, ALL, n, thr, degm, mode, dis, names, len);
+}
+
+/* level n, watched as plain() watches the layers */
+static uint64_t given(uint8_t n) { return level(n, 1, 2, 0, 0, 32); }
+
+static uint64_t all_given(uint8_t k) {
+    uint64_t refused = plain(k);
+    for (uint8_t n = 1; n <= OTN_LEVELS; n++) refused |= given(n);
+    return refused;
+}
+
+static uint64_t report(uint8_t n) { return otn_level_report(sup, ALL, n); }
+
 static uint8_t before[ALL];
 static int same(size_t from, size_t to) { return memcmp(before + from, sup + from, to - from) == 0; }
 
-/* An accepted step leaves provisioning, dDEG, seconds closed and names. Of a layer's traces it writes one byte, the frame's; only where
-   that is the last of a cycle, the last whole cycle and the accepted trace may change too, to the gathered one. */
-static int step_leaves(void) {
-    int good = same(0, ALIGNMENT);
-    for (size_t at = RECORDS; at < ALL; at += RECORD) {
-        const size_t byte = at + GATHERED + sup[LOCAL] % 64;
+/* whether a record is stepped and marked: a layer's, and that of a level that is provisioned */
+static int watched(int i) { return i < 2 || before[GIVEN + i - 2] == 1; }
+
+/* An accepted step leaves provisioning, dDEG, seconds closed and names, and all of a level that is not provisioned; the frame's flags are
+   kept. Of a trace it writes one byte, the frame's; only where that is the last of a cycle, the last whole cycle and the accepted trace may
+   change too, to the gathered one. */
+static int step_leaves(uint8_t flags) {
+    int good = same(0, ALIGNMENT) && sup[FLAGS] == flags && same(GIVEN, LEVELS);
+    for (int i = 0; i < WATCHED; i++) {
+        const size_t at = record_at(i), byte = at + GATHERED + sup[LOCAL] % 64;
         const int last = sup[LOCAL] % 64 == 63 && before[at + GATHERING] == 1;
         good &= same(at, at + STATE) && same(at + NAMES, at + RECORD);
+        good &= watched(i) || same(at, at + RECORD);
         good &= same(at + GATHERED, byte) && same(byte + 1, at + PREVIOUS);
-        good &= sup[byte] == before[byte] || sup[byte] == overhead[at == RECORDS ? 7 : 41];
+        good &= sup[byte] == before[byte] || sup[byte] == overhead[field[i]];
         good &= same(at + PREVIOUS, at + NAMES) || (last && memcmp(sup + at + PREVIOUS, sup + at + GATHERED, 64) == 0);
         good &= same(at + ACCEPTED, at + GATHERED) || (last && memcmp(sup + at + ACCEPTED, sup + at + GATHERED, 64) == 0);
     }
     return good;
 }
 
-/* An accepted mark leaves all but seconds closed, the open second and dDEG. */
+/* An accepted mark leaves all but seconds closed, the open second and dDEG, and all of a level that is not provisioned. */
 static int mark_leaves(void) {
-    int good = same(0, CLOSED) && same(ALIGNMENT, SECOND);
-    for (size_t at = RECORDS; at < ALL; at += RECORD)
+    int good = same(0, CLOSED) && same(ALIGNMENT, SECOND) && same(FLAGS, LEVELS);
+    for (int i = 0; i < WATCHED; i++) {
+        const size_t at = record_at(i);
         good &= same(at, at + DDEG) && same(at + DDEG + 2, at + DS) && same(at + ACCEPTED, at + RECORD);
+        good &= watched(i) || same(at, at + RECORD);
+    }
     return good;
 }
 
 static uint64_t step(uint8_t flags, uint8_t sm, uint8_t pm) {
     memcpy(before, sup, ALL);
     uint64_t answer = otn_step(sup, ALL, overhead, OTN_OVERHEAD_BYTES, flags, sm, pm);
-    check(otn_refusal(answer) ? same(0, ALL) : step_leaves(), "step, the bytes that it leaves");
+    check(otn_refusal(answer) ? same(0, ALL) : step_leaves(flags), "step, the bytes that it leaves");
+    return answer;
+}
+
+static uint64_t step_levels(uint8_t flags, uint8_t sm, uint8_t pm, const uint8_t t[OTN_LEVELS]) {
+    memcpy(before, sup, ALL);
+    uint64_t answer = otn_step_levels(sup, ALL, overhead, OTN_OVERHEAD_BYTES, flags, sm, pm, t[0], t[1], t[2], t[3], t[4], t[5]);
+    check(otn_refusal(answer) ? same(0, ALL) : step_leaves(flags), "step_levels, the bytes that it leaves");
     return answer;
 }
 
@@ -79,6 +114,8 @@ static uint64_t mark(uint8_t *record, size_t len) {
 static void put(size_t at, unsigned bytes, uint32_t x) {
     for (unsigned i = 0; i < bytes; i++) sup[at + i] = (uint8_t)(x >> 8 * i);
 }
+
+static uint32_t word_at(size_t at) { return (uint32_t)sup[at] | (uint32_t)sup[at + 1] << 8 | (uint32_t)sup[at + 2] << 16 | (uint32_t)sup[at + 3] << 24; }
 
 /* a refusal: its number and nothing else, and no byte changed */
 #define REFUSES(call, number, what)                                                                                                  \
@@ -116,6 +153,102 @@ static void refusals_of_fresh(void) {
     REFUSES(otn_fresh(sup, ALL, 1, 1, 2, 1, 2, 0, 0, 0, 0, NULL, 0, NULL, 0), 10, "fresh, NULL names");
 }
 
+static void refusals_of_level(void) {
+    static const uint32_t most[4] = {0, 20420, 82025, 329492};
+    static const uint8_t none[OTN_LEVELS];
+    uint8_t record[OTN_RECORD_BYTES];
+    check(plain(1) == 0, "fresh");
+    REFUSES(otn_level(sup, ALL - 1, 9, 0, 0, 9, 9, names, 0), 17, "level, a byte less");
+    REFUSES(otn_level(sup, ALL + 1, 1, 1, 2, 0, 0, names, 32), 17, "level, a byte more");
+    REFUSES(otn_level(NULL, 0, 1, 1, 2, 0, 0, names, 32), 17, "level, NULL");
+    put(GIVEN + 5, 1, 2);
+    REFUSES(level(1, 0, 0, 9, 9, 0), 17, "level, bytes that are no supervisor");
+    for (uint8_t k = 1; k <= 3; k++) {
+        check(plain(k) == 0 && level(6, most[k], 10, 3, 2, 32) == 0, "level, the greatest of each");
+        REFUSES(level(5, most[k] + 1, 2, 0, 0, 32), 6, "level, DEGThr");
+    }
+    check(plain(1) == 0, "fresh");
+    REFUSES(level(9, 0, 0, 9, 9, 0), 6, "level, DEGThr 0 and all after");
+    REFUSES(level(7, 1, 0, 0, 0, 32), 7, "level 7 with DEGM 0");
+    REFUSES(level(9, 1, 1, 9, 9, 0), 7, "level, DEGM 1 and all after");
+    REFUSES(level(1, 1, 11, 0, 0, 32), 7, "level, DEGM 11");
+    REFUSES(level(9, 1, 2, 4, 9, 0), 8, "level, mode 4 and all after");
+    REFUSES(level(9, 1, 2, 0, 3, 0), 9, "level, TIMActDis 3 and all after");
+    REFUSES(level(9, 1, 2, 0, 0, 31), 10, "level, 31 names and no level");
+    REFUSES(level(1, 1, 2, 0, 0, 33), 10, "level, 33 names");
+    REFUSES(otn_level(sup, ALL, 1, 1, 2, 0, 0, NULL, 0), 10, "level, NULL names");
+    for (unsigned n = 0; n < 256; n++)
+        if (n < 1 || n > OTN_LEVELS) REFUSES(given((uint8_t)n), 18, "level, not 1 to 6");
+    /* each once, in any order, and in the bytes of its own record alone */
+    static const uint8_t order[OTN_LEVELS] = {4, 1, 6, 2, 5, 3};
+    uint8_t fresh_bytes[ALL];
+    memcpy(fresh_bytes, sup, ALL);
+    for (int i = 0; i < OTN_LEVELS; i++) {
+        const size_t at = record_at(1 + order[i]);
+        memcpy(before, sup, ALL);
+        memset(names, order[i], 32);
+        check(level(order[i], 100u + order[i], 3, 2, 1, 32) == 0, "level");
+        check(same(0, GIVEN + order[i] - 1) && same(GIVEN + order[i], at) && same(at + RECORD, ALL), "level, the bytes that it leaves");
+        check(sup[GIVEN + order[i] - 1] == 1 && word_at(at) == 100u + order[i] && sup[at + 4] == 3 && sup[at + 5] == 2 && sup[at + 6] == 1, "level, its bytes");
+        check(same(at + 7, at + NAMES) && memcmp(sup + at + NAMES, names, 32) == 0, "level, its names");
+        REFUSES(level(order[i], 100u + order[i], 3, 2, 1, 32), 18, "level, the same again");
+    }
+    memset(names, 0, sizeof names);
+    for (uint8_t n = 1; n <= OTN_LEVELS; n++) {
+        REFUSES(given(n), 18, "level, given twice");
+        REFUSES(level(n, 0, 2, 0, 0, 32), 6, "level, given twice with DEGThr 0");
+    }
+    /* 16 after a frame and after a mark, whichever it was, and before 18 */
+    for (int kind = 0; kind < 3; kind++) {
+        check(plain(1) == 0 && given(1) == 0, "fresh, level");
+        check(otn_refusal(kind == 0 ? step(0, 0, 0) : kind == 1 ? step_levels(0, 0, 0, none) : mark(record, sizeof record)) == 0, "a frame or a mark");
+        REFUSES(given(2), 16, "level, late");
+        REFUSES(given(1), 16, "level, late and given twice");
+        REFUSES(given(7), 16, "level, late and no level");
+        REFUSES(level(2, 1, 2, 0, 0, 31), 10, "level, late with 31 names");
+    }
+    check(step_levels(4, 0, 0, none) == 2 && plain(1) == 0 && step(4, 0, 0) == 2 && step(0, 9, 0) == 3 && given(1) == 0, "level, after a frame that is refused");
+    check(plain(1) == 0 && memcmp(sup, fresh_bytes, ALL) == 0, "fresh, the same bytes each time");
+    /* a fresh level: DEGThr 1, DEGM 2, and zeros */
+    int blank = 1;
+    for (size_t at = FLAGS; at < ALL; at++) blank &= sup[at] == (at < LEVELS ? 0 : (at - LEVELS) % RECORD == 0 ? 1 : (at - LEVELS) % RECORD == 4 ? 2 : 0);
+    check(blank, "fresh, the bytes of levels");
+}
+
+static void refusals_of_step_levels(void) {
+    uint8_t t[OTN_LEVELS] = {9, 9, 9, 9, 9, 9}, none[OTN_LEVELS] = {0};
+    check(plain(1) == 0, "fresh");
+    REFUSES(otn_step_levels(sup, 0, overhead, 0, 9, 9, 9, 9, 9, 9, 9, 9, 9), 17, "step_levels, no bytes");
+    REFUSES(otn_step_levels(NULL, 0, NULL, 0, 9, 9, 9, 9, 9, 9, 9, 9, 9), 17, "step_levels, NULL");
+    REFUSES(otn_step_levels(sup, ALL - 1, overhead, 64, 0, 0, 0, 0, 0, 0, 0, 0, 0), 17, "step_levels, a byte less");
+    REFUSES(otn_step_levels(sup, ALL + 1, overhead, 64, 0, 0, 0, 0, 0, 0, 0, 0, 0), 17, "step_levels, a byte more");
+    REFUSES(otn_step_levels(sup, ALL, overhead, 63, 9, 9, 9, 9, 9, 9, 9, 9, 9), 1, "step_levels, 63 bytes of overhead and all after");
+    REFUSES(otn_step_levels(sup, ALL, overhead, 65, 0, 0, 0, 0, 0, 0, 0, 0, 0), 1, "step_levels, 65 bytes of overhead");
+    REFUSES(otn_step_levels(sup, ALL, NULL, 0, 0, 0, 0, 0, 0, 0, 0, 0, 0), 1, "step_levels, NULL overhead");
+    REFUSES(step_levels(4, 9, 9, t), 2, "step_levels, flags 4 and counts");
+    REFUSES(step_levels(0, 9, 0, none), 3, "step_levels, SM count 9");
+    REFUSES(step_levels(0, 0, 9, none), 3, "step_levels, PM count 9");
+    /* each level's count, provisioned or not */
+    for (int provisioned = 0; provisioned < 2; provisioned++)
+        for (int n = 0; n < OTN_LEVELS; n++) {
+            check((provisioned ? all_given(1) : plain(1)) == 0, "fresh");
+            memset(t, 0, sizeof t);
+            t[n] = 9;
+            REFUSES(step_levels(0, 8, 8, t), 3, "step_levels, a level's count 9");
+            t[n] = 255;
+            REFUSES(step_levels(3, 0, 0, t), 3, "step_levels, a level's count 255");
+            t[n] = 8;
+            check(otn_refusal(step_levels(0, 0, 0, t)) == 0, "step_levels, a level's count 8");
+            put(SECOND, 4, 400000);
+            t[n] = 9;
+            REFUSES(step_levels(0, 0, 0, t), 3, "step_levels, full with a level's count 9");
+            REFUSES(step_levels(3, 8, 8, none), 4, "step_levels, full");
+            put(SECOND, 4, 399999);
+            check(otn_refusal(step_levels(3, 8, 8, none)) == 0, "step_levels, the last frame of a second");
+            REFUSES(step_levels(3, 8, 8, none), 4, "step_levels, the one after it");
+        }
+}
+
 static void refusals_of_step(void) {
     check(plain(1) == 0, "fresh");
     REFUSES(otn_step(sup, 0, overhead, 0, 9, 9, 9), 17, "step, no bytes");
@@ -139,26 +272,34 @@ static void refusals_of_step(void) {
 }
 
 static void refusals_of_mark(void) {
-    uint8_t record[100], kept[100];
+    enum { WHOLE = OTN_RECORD_BYTES, ROOM = WHOLE + 20 };
+    uint8_t record[ROOM], kept[ROOM];
     memset(record, 0x5a, sizeof record);
     memcpy(kept, record, sizeof record);
     check(plain(2) == 0, "fresh");
-    REFUSES(otn_mark(sup, ALL - 1, record, 80), 17, "mark, a byte less");
-    REFUSES(otn_mark(sup, 0, record, 80), 17, "mark, no bytes");
+    REFUSES(otn_mark(sup, ALL - 1, record, WHOLE), 17, "mark, a byte less");
+    REFUSES(otn_mark(sup, ALL + 1, record, WHOLE), 17, "mark, a byte more");
+    REFUSES(otn_mark(sup, 0, record, WHOLE), 17, "mark, no bytes");
+    REFUSES(otn_mark(NULL, 0, NULL, 0), 17, "mark, NULL");
     put(CLOSED, 4, 0xffffffff);
-    REFUSES(mark(record, 80), 4, "mark, all seconds closed");
+    REFUSES(mark(record, WHOLE), 4, "mark, all seconds closed");
+    REFUSES(mark(NULL, 0), 4, "mark, all seconds closed and no record");
     check(memcmp(record, kept, sizeof record) == 0, "mark, refused: the record as it was");
     put(CLOSED, 4, 0xfffffffe);
-    check(mark(record, 80) == 0 && otn_figure(record, OTN_SECOND) == 0xffffffff, "mark, the last second");
-    uint8_t whole[80];
-    check(plain(1) == 0 && otn_refusal(step(1, 3, 0)) == 0 && mark(whole, 80) == 0, "mark, a whole record");
-    for (size_t n = 0; n <= 100; n++) {
+    check(mark(record, WHOLE) == 0 && otn_figure(record, OTN_SECOND) == 0xffffffff, "mark, the last second");
+    /* a frame under TSF-P that no level but the second and the sixth is there to see */
+    uint8_t whole[WHOLE];
+    for (int turn = -1; turn <= ROOM; turn++) {
+        const size_t n = turn < 0 ? WHOLE : (size_t)turn, m = n < WHOLE ? n : WHOLE;
         memcpy(record, kept, sizeof record);
-        check(plain(1) == 0 && otn_refusal(step(1, 3, 0)) == 0, "a frame");
+        check(plain(1) == 0 && given(2) == 0 && given(6) == 0 && otn_refusal(step(1, 3, 0)) == 0, "a frame");
         check(mark(n ? record : NULL, n) == 0, "mark, a record of any length");
-        size_t m = n < 80 ? n : 80;
-        check(memcmp(record, whole, m) == 0 && memcmp(record + m, kept + m, 100 - m) == 0, "mark, what there is room for");
+        if (turn < 0) memcpy(whole, record, sizeof whole);
+        check(memcmp(record, whole, m) == 0 && memcmp(record + m, kept + m, ROOM - m) == 0, "mark, what there is room for");
     }
+    for (unsigned n = 1; n <= OTN_LEVELS; n++)
+        for (unsigned i = 0; i < 4; i++)
+            check(otn_level_figure(whole, n, i) == ((n == 2 || n == 6) && i == OTN_LEVEL_NEAR_DS), "mark, the levels' figures");
 }
 
 /* frames in alignment whose section and path send a trace and a status byte each */
@@ -175,6 +316,12 @@ static void send(uint8_t tti, uint8_t sm, uint8_t pm) {
 static uint64_t aligned(uint8_t tti, uint8_t sm, uint8_t pm) {
     send(tti, sm, pm);
     return step(0, 0, 0);
+}
+
+/* what a level sends: its trace byte and status; level 0 is all six */
+static void tandem(unsigned n, uint8_t tti, uint8_t status) {
+    for (unsigned i = 1; i <= OTN_LEVELS; i++)
+        if (n == 0 || n == i) overhead[field[1 + i]] = tti, overhead[field[1 + i] + 2] = status;
 }
 
 static void refusals_of_trace(void) {
@@ -202,6 +349,63 @@ static void refusals_of_trace(void) {
         for (int i = 0; i < 64; i++) same &= out[i] == 100 + i;
         check(same, "trace, its 64 bytes");
     }
+}
+
+/* the two readings of a level: refusals, and that they change nothing */
+static void refusals_of_readings(void) {
+    uint8_t out[65], kept[65];
+    memset(out, 0x5a, sizeof out);
+    memcpy(kept, out, sizeof out);
+    check(plain(3) == 0, "fresh");
+    REFUSES(otn_level_report(sup, ALL - 1, 9), 17, "level_report, a byte less");
+    REFUSES(otn_level_report(sup, ALL + 1, 1), 17, "level_report, a byte more");
+    REFUSES(otn_level_report(NULL, 0, 1), 17, "level_report, NULL");
+    REFUSES(otn_level_trace(sup, ALL - 1, 9, out, 63), 17, "level_trace, a byte less");
+    REFUSES(otn_level_trace(sup, ALL + 1, 1, out, 64), 17, "level_trace, a byte more");
+    REFUSES(otn_level_trace(NULL, 0, 1, NULL, 0), 17, "level_trace, NULL");
+    for (unsigned n = 0; n < 256; n++) {
+        const int is_level = n >= 1 && n <= OTN_LEVELS;
+        REFUSES(report((uint8_t)n), is_level ? 0 : 18, "level_report, of a level that is not provisioned");
+        REFUSES(otn_level_trace(sup, ALL, (uint8_t)n, out, 63), 12, "level_trace, a buffer of 63");
+        REFUSES(otn_level_trace(sup, ALL, (uint8_t)n, out, 64), 13, "level_trace, none, or no level");
+    }
+    REFUSES(otn_level_trace(sup, ALL, 1, out, 65), 12, "level_trace, a buffer of 65");
+    REFUSES(otn_level_trace(sup, ALL, 1, NULL, 0), 12, "level_trace, no buffer");
+    /* bytes that no history leaves: a level that is not provisioned, with a trace that is accepted and dDEG */
+    put(record_at(2) + STATE, 1, 1);
+    put(record_at(2) + DDEG, 1, 1);
+    REFUSES(otn_level_trace(sup, ALL, 1, out, 64), 13, "level_trace, of a level that is not provisioned");
+    REFUSES(report(1), 0, "level_report, of a level that is not provisioned");
+    /* and a STAT that stays accepted under SSF: SSF is the cause that is told */
+    check(plain(3) == 0 && given(1) == 0, "fresh, level 1");
+    put(FLAGS, 1, OTN_FLAG_OTUK_AIS);
+    for (unsigned stat = 0; stat < 8; stat++) {
+        put(record_at(2) + 43, 1, 1);
+        put(record_at(2) + 44, 1, stat);
+        const uint64_t bits = report(1);
+        check(OTN_TCM_SSF(bits) && OTN_TCM_CSSF(bits) && OTN_TCM_ATSF(bits) && OTN_TCM_DLTC(bits) == (stat == 0) && OTN_TCM_DLCK(bits) == (stat == 5), "SSF and a STAT");
+        check(!OTN_TCM_CLTC(bits) && !OTN_TCM_COCI(bits) && !OTN_TCM_CLCK(bits), "SSF and a STAT, its causes");
+    }
+    /* levels 2 and 5 alone send and are watched; before a frame a level's report has one bit */
+    check(plain(3) == 0, "fresh");
+    check(given(2) == 0 && given(5) == 0, "levels");
+    for (uint8_t n = 1; n <= OTN_LEVELS; n++) REFUSES(report(n), n == 2 || n == 5 ? 1 << 8 : 0, "level_report, before a frame");
+    mfas = 254;
+    for (int i = 0; i < 2 + 3 * 64; i++) {
+        if (i == 2 + 3 * 64 - 1) REFUSES(otn_level_trace(sup, ALL, 5, out, 64), 13, "level_trace, the third cycle not yet whole");
+        tandem(0, (uint8_t)(50 + (mfas & 63)), 1);
+        tandem(5, (uint8_t)(150 + (mfas & 63)), 1);
+        aligned(0, 0, 1);
+    }
+    check(memcmp(out, kept, sizeof out) == 0, "level_trace, refused: the buffer as it was");
+    for (uint8_t n = 1; n <= OTN_LEVELS; n++) {
+        memcpy(out, kept, sizeof out);
+        REFUSES(otn_level_trace(sup, ALL, n, out, 64), n == 2 || n == 5 ? 0 : 13, "level_trace, accepted: the supervisor as it was");
+        int good = out[64] == 0x5a;
+        for (int i = 0; i < 64; i++) good &= out[i] == (n == 2 ? 50 + i : n == 5 ? 150 + i : 0x5a);
+        check(good, "level_trace, its 64 bytes");
+    }
+    memset(overhead, 0, sizeof overhead);
 }
 
 /* the tables of docs/SUPERVISOR.md: the numbers with the ranges of 17, and the arrays */
@@ -240,40 +444,55 @@ static void rows(void) {
     check(good, "the tables have each byte once");
 }
 
-static void ranges(void) {
-    uint8_t record[80], out[64];
-    for (int i = 0; i < NUMBERS; i++) {
-        const unsigned at = number[i].at, bytes = number[i].bytes;
-        const uint32_t least = number[i].least, greatest = number[i].greatest, all = bytes == 1 ? 0xff : 0xffffffff;
-        for (int end = 0; end < 2; end++) {
-            check(plain(1) == 0, "fresh");
-            put(at, bytes, end ? greatest : least);
-            check(otn_trace(sup, ALL, 2, out, 64) == 11, "in range");
-            check(otn_refusal(step(0, 0, 0)) != 17, "in range, stepped");
-            check(otn_refusal(mark(record, 80)) != 17, "in range, marked");
-        }
-        check(plain(1) == 0, "fresh");
-        if (greatest < all) {
-            put(at, bytes, greatest + 1);
-            REFUSES(step(9, 9, 9), 17, "above its range, step");
-            REFUSES(mark(record, 80), 17, "above its range, mark");
-            REFUSES(otn_trace(sup, ALL, 9, out, 1), 17, "above its range, trace");
-            put(at, bytes, all);
-            REFUSES(step(0, 0, 0), 17, "far above its range");
-        }
-        for (unsigned bit = 0; bit < 8 * bytes; bit++)
-            if (1u << bit > greatest) {
-                put(at, bytes, 1u << bit);
-                REFUSES(step(0, 0, 0), 17, "one bit, above its range");
-            }
-        if (least > 0) {
-            put(at, bytes, least - 1);
-            REFUSES(step(9, 9, 9), 17, "below its range");
-        }
+/* one number of the table in range and beyond it, all levels provisioned or none */
+static uint64_t start(int levels) { return levels ? all_given(1) : plain(1); }
+static void range(int i, int levels) {
+    static const uint8_t t[OTN_LEVELS] = {1, 1, 2, 3, 4, 8}, over[OTN_LEVELS] = {9, 9, 9, 9, 9, 9};
+    uint8_t record[OTN_RECORD_BYTES], out[64];
+    const unsigned at = number[i].at, bytes = number[i].bytes;
+    const uint32_t least = number[i].least, greatest = number[i].greatest, all = bytes == 1 ? 0xff : 0xffffffff;
+    for (int end = 0; end < 2; end++) {
+        check(start(levels) == 0, "fresh");
+        put(at, bytes, end ? greatest : least);
+        check(otn_trace(sup, ALL, 2, out, 64) == 11, "in range");
+        check(level(9, 0, 0, 9, 9, 0) == 6 && report(9) == 18 && otn_level_trace(sup, ALL, 1, out, 63) == 12, "in range, the calls of a level");
+        check(otn_refusal(step(0, 0, 0)) % 4 == 0, "in range, stepped");
+        check(otn_refusal(step_levels(0, 1, 1, t)) % 4 == 0, "in range, stepped with levels");
+        check(otn_refusal(mark(record, sizeof record)) % 4 == 0, "in range, marked");
+        check(otn_trace(sup, ALL, 2, out, 64) == 11, "in range, and stays in range");
     }
+    check(start(levels) == 0, "fresh");
+    if (greatest < all) {
+        put(at, bytes, greatest + 1);
+        REFUSES(step(9, 9, 9), 17, "above its range, step");
+        REFUSES(step_levels(9, 9, 9, over), 17, "above its range, step_levels");
+        REFUSES(mark(record, sizeof record), 17, "above its range, mark");
+        REFUSES(otn_trace(sup, ALL, 9, out, 1), 17, "above its range, trace");
+        REFUSES(level(9, 0, 0, 9, 9, 0), 17, "above its range, level");
+        REFUSES(report(9), 17, "above its range, level_report");
+        REFUSES(otn_level_trace(sup, ALL, 9, out, 1), 17, "above its range, level_trace");
+        put(at, bytes, all);
+        REFUSES(step(0, 0, 0), 17, "far above its range");
+    }
+    for (unsigned bit = 0; bit < 8 * bytes; bit++)
+        if (1u << bit > greatest) {
+            put(at, bytes, 1u << bit);
+            REFUSES(step(0, 0, 0), 17, "one bit, above its range");
+        }
+    if (least > 0) {
+        put(at, bytes, least - 1);
+        REFUSES(step(9, 9, 9), 17, "below its range");
+        REFUSES(report(1), 17, "below its range, level_report");
+    }
+}
+
+static void ranges(void) {
+    uint8_t record[OTN_RECORD_BYTES], out[64];
+    for (int i = 0; i < NUMBERS; i++)
+        for (int levels = 0; levels < 2; levels++) range(i, levels);
     for (int i = 0; i < ARRAYS; i++)
         for (unsigned j = array[i].at; j < array[i].at + array[i].bytes; j++) {
-            check(plain(1) == 0, "fresh");
+            check(start(j & 1) == 0, "fresh");
             sup[j] = 0xff;
             check(otn_refusal(step(0, 0, 0)) == 0, "an array's byte has no range");
         }
@@ -288,15 +507,23 @@ static void ranges(void) {
         for (int i = 0; i < ARRAYS; i++)
             for (unsigned j = array[i].at; j < array[i].at + array[i].bytes; j++) sup[j] = (uint8_t)(seed = seed * 1664525 + 1013904223, seed >> 24);
         for (int i = 0; i < 64; i++) overhead[i] = (uint8_t)(seed = seed * 1664525 + 1013904223, seed >> 24);
+        uint8_t t[OTN_LEVELS];
+        for (int i = 0; i < OTN_LEVELS; i++) t[i] = (uint8_t)((turn + i) % 9);
+        for (uint8_t n = 1; n <= OTN_LEVELS; n++) {
+            REFUSES(otn_refusal(report(n)), 0, "any state in range, a level's report");
+            REFUSES(otn_level_trace(sup, ALL, n, out, 64) % 13, 0, "any state in range, a level's trace");
+            check(sup[GIVEN + n - 1] || report(n) == 0, "any state in range, a level that is not provisioned");
+        }
         check(otn_refusal(step((uint8_t)(turn & 3), (uint8_t)(turn % 9), 0)) % 4 == 0, "any state in range, stepped");
-        check(otn_refusal(mark(record, 80)) % 4 == 0, "any state in range, marked");
+        check(otn_refusal(step_levels((uint8_t)(turn & 3), (uint8_t)(turn % 9), 0, t)) % 4 == 0, "any state in range, stepped with levels");
+        check(otn_refusal(mark(record, sizeof record)) % 4 == 0, "any state in range, marked");
         check(otn_trace(sup, ALL, 2, out, 64) == 11, "any state in range stays in range");
     }
     memset(overhead, 0, sizeof overhead);
 }
 
 static void frames(void) {
-    uint8_t record[80];
+    uint8_t record[OTN_RECORD_BYTES];
     /* document 01's listing: two frames with flags 1, a mark */
     check(plain(1) == 0, "fresh");
     for (int i = 0; i < 2; i++) {
@@ -305,7 +532,7 @@ static void frames(void) {
         check(OTN_SECTION_ATSF(r) && OTN_SECTION_ABDI(r) && OTN_PATH_ATSF(r) && OTN_PATH_ABDI(r) && !OTN_CLOF(r) && !OTN_IF(r), "TSF-P, actions");
     }
     static const uint32_t listing[20] = {1, 2, 0, 2, 0, 0, 0, 0, 0, 0, 0, 0, 0, 0, 1, 0, 0, 0, 1, 0};
-    check(mark(record, 80) == 0, "mark");
+    check(mark(record, sizeof record) == 0, "mark");
     for (unsigned i = 0; i < 20; i++) check(otn_figure(record, i) == listing[i], "the listing's figures");
 
     /* (a), (b): 61 frames of zeros, then the 62nd */
@@ -349,7 +576,7 @@ static void frames(void) {
         for (int i = 0; i < 4; i++) aligned(0, 0, 0);
         r = step(0, 1, 1);
         check(!OTN_SECTION_DDEG(r) && !OTN_PATH_DDEG(r), "no dDEG yet");
-        check(mark(record, 80) == 0 && otn_figure(record, OTN_SECTION_NEAR) == 1 && otn_figure(record, OTN_PATH_NEAR) == 1, "one near block");
+        check(mark(record, sizeof record) == 0 && otn_figure(record, OTN_SECTION_NEAR) == 1 && otn_figure(record, OTN_PATH_NEAR) == 1, "one near block");
     }
     r = aligned(0, 0, 0);
     check(OTN_SECTION_DDEG(r) && OTN_SECTION_ATSD(r) && OTN_SECTION_CDEG(r) && OTN_PATH_DDEG(r) && OTN_PATH_ATSD(r) && OTN_PATH_CDEG(r), "dDEG");
@@ -367,6 +594,232 @@ static void frames(void) {
     memset(names, 0, sizeof names);
 }
 
+/* a frame in alignment with a count of 1 for section, path and each level, or with counts of its own */
+static const uint8_t ones[OTN_LEVELS] = {1, 1, 1, 1, 1, 1};
+static uint64_t counted(uint8_t flags, uint8_t sm, uint8_t pm, const uint8_t t[OTN_LEVELS]) {
+    send(0, 0, overhead[43]);
+    return step_levels(flags, sm, pm, t);
+}
+
+/* the figures of section, path and levels in the record of the second that a mark closes; the rest of what is expected is 0 */
+static void closes(const uint32_t expected[44], const char *what) {
+    uint8_t record[OTN_RECORD_BYTES];
+    int good = mark(record, sizeof record) == 0;
+    for (unsigned i = 0; i < 44; i++) good &= otn_figure(record, i) == expected[i];
+    check(good, what);
+}
+
+/* the report of level n after each frame: a bit stands in frames first to last, and in no other that was asked for */
+static int stands(unsigned bit, int frame, int first, int last, uint8_t n) { return otn_report_bit(report(n), bit) == (frame >= first && frame <= last); }
+enum { SSF = 9, DLTC, DAIS, DOCI, DLCK, DTIM, DBDI, DIAE, DBIAE, TSDEG, ATSF, ATSD, CSSF, CLTC, COCI, CLCK, CTIM, CDEG, CBDI };
+
+/* the cases of six tandem levels, frames counted from 1 */
+static void levels(void) {
+    static const uint8_t none[OTN_LEVELS];
+    uint64_t r = 0;
+    memset(overhead, 0, sizeof overhead);
+
+    /* 1: dLTC at the third STAT 000, a fresh level having none; it stops the level's counts and touches nothing else */
+    check(plain(1) == 0 && given(1) == 0, "fresh, level 1");
+    mfas = 0;
+    for (int i = 1; i <= 5; i++) {
+        r = counted(0, 1, 1, ones);
+        const uint64_t bits = report(1);
+        check(OTN_TCM_DLTC(bits) == (i >= 3) && OTN_TCM_ATSF(bits) == (i >= 3) && OTN_TCM_CLTC(bits) == (i >= 3), "dLTC at the third frame");
+        check(otn_head(r) == OTN_HEAD_CLEAR && !OTN_PATH_ATSF(r), "dLTC of a level, and the path");
+        check(bits == (i >= 3 ? 1u << 8 | 1u << DLTC | 1u << ATSF | 1u << CLTC : 1u << 8), "dLTC, every bit");
+    }
+    closes((const uint32_t[44]){1, 5, 5, [12] = 5, [16] = 5, [20] = 2, 0, 1}, "dLTC, its second");
+
+    /* 2: dIAE by STAT 010; its second is discarded, near and far, in the level alone */
+    check(plain(1) == 0 && given(2) == 0, "fresh, level 2");
+    mfas = 0;
+    for (int i = 1; i <= 9; i++) {
+        tandem(0, 0, i >= 4 && i <= 6 ? 0x12 : 1);
+        counted(0, 1, 1, ones);
+        check(stands(DIAE, i, 6, 8, 2) && stands(ATSF, i, 0, 0, 2), "dIAE in frames 6 to 8");
+    }
+    check(word_at(record_at(3) + NEAR) == 9 && word_at(record_at(3) + FAR) == 3, "dIAE, blocks before they are discarded");
+    closes((const uint32_t[44]){1, 9, 9, [12] = 9, [16] = 9}, "dIAE, its second");
+
+    /* 3: dTIM masks dIAE and forgets dBIAE, acting or not; the STAT stays accepted, and dBDI stands on */
+    for (uint8_t dis = OTN_TIM_ACTS; dis <= OTN_TIM_DEFAULT; dis++) {
+        const int acts = dis == OTN_TIM_DISABLED ? 999 : 194;
+        memset(names, 1, sizeof names);
+        check(plain(1) == 0 && level(3, 1, 2, OTN_MODE_SAPI, dis, 32) == 0, "fresh, level 3");
+        memset(overhead, 0, sizeof overhead);
+        tandem(3, 0, 0xba);
+        mfas = 254;
+        for (int i = 1; i <= 194; i++) {
+            r = counted(0, 0, 0, ones);
+            check(stands(DIAE, i, 3, 193, 3) && stands(DBIAE, i, 3, 193, 3) && stands(DTIM, i, 194, 194, 3) && stands(CTIM, i, 194, 194, 3), "dIAE under dTIM");
+            check(stands(DBDI, i, 5, 194, 3) && stands(CBDI, i, 5, acts - 1, 3), "dBDI under dTIM");
+            check(stands(ATSF, i, acts, 999, 3) && otn_head(r) == 0, "dTIM of a level acts on it alone");
+        }
+        check(sup[record_at(4) + DS] == 1 && word_at(record_at(4) + NEAR) == 194, "dTIM, before the discard");
+        closes((const uint32_t[44]){1, 194, 194}, "dTIM after dIAE, its second");
+        check(OTN_TCM_DTIM(report(3)) && otn_refusal(counted(0, 0, 0, ones)) == 0, "dTIM after the mark");
+        closes((const uint32_t[44]){2, 1, 1, [28] = 1, 0, 1, 1}, "dTIM, its second");
+        memset(names, 0, sizeof names);
+    }
+
+    /* 4: the section's dTIM, where it acts, is the level's SSF in its own frame */
+    for (uint8_t dis = 0; dis < 2; dis++) {
+        memset(names, 1, sizeof names);
+        check(fresh(ALL, 1, 1, 2, 1, 2, OTN_MODE_SAPI, 0, dis, 0, 32, 32) == 0 && given(1) == 0, "fresh, section mode 1");
+        memset(names, 0, sizeof names);
+        memset(overhead, 0, sizeof overhead);
+        tandem(1, 0, 5);
+        mfas = 254;
+        for (int i = 1; i <= 194; i++) {
+            const int last = dis ? 194 : 193, ssf = dis ? 999 : 194;
+            r = counted(0, 0, 0, ones);
+            check(stands(DLCK, i, 3, last, 1) && stands(CLCK, i, 3, last, 1) && stands(SSF, i, ssf, 999, 1) && stands(CSSF, i, ssf, 999, 1), "dLCK until the section's dTIM");
+            check(otn_head(r) == (i < ssf ? 0u : (unsigned)OTN_HEAD_SECTION_TIM), "the section's dTIM, its head");
+        }
+        check(word_at(record_at(2) + NEAR) == 2, "dLCK stops the count");
+    }
+
+    /* 5: the path's dAIS does not touch levels 1 and 6; that of level 1 touches neither the path nor level 6 */
+    for (int own = 0; own < 2; own++) {
+        static const uint8_t t[OTN_LEVELS] = {1, 0, 0, 0, 0, 1};
+        check(plain(1) == 0 && given(1) == 0 && given(6) == 0, "fresh, levels 1 and 6");
+        memset(overhead, 0, sizeof overhead);
+        mfas = 0;
+        for (int i = 1; i <= 8; i++) {
+            tandem(0, 0, 1);
+            overhead[43] = 1;
+            if (i > 3 && own) tandem(1, 0, 0x0f); /* BDI: dAIS comes before its fifth frame, and forgets it */
+            if (i > 3 && !own) overhead[43] = 7;
+            r = i > 3 ? counted(0, 0, 1, t) : counted(0, 0, 0, none);
+            check(otn_head(r) == (i >= 6 && !own ? (unsigned)OTN_HEAD_AIS : 0u), "dAIS, its head");
+            check(stands(DAIS, i, own ? 6 : 999, 999, 1) && stands(CSSF, i, own ? 6 : 999, 999, 1) && report(6) == 1 << 8, "dAIS of a level");
+            check(stands(DBDI, i, 0, 0, 1), "dAIS forgets dBDI");
+        }
+        closes(own ? (const uint32_t[44]){1, 8, 8, [16] = 5, [20] = 2, 0, 1, [40] = 5}
+                   : (const uint32_t[44]){1, 8, 5, [8] = 3, [16] = 2, 0, 1, [20] = 5, [40] = 5}, "dAIS, its second");
+    }
+
+    /* 6: dBIAE discards the far values and leaves the near ones */
+    check(plain(1) == 0 && given(4) == 0, "fresh, level 4");
+    memset(overhead, 0, sizeof overhead);
+    mfas = 0;
+    for (int i = 1; i <= 11; i++) {
+        tandem(4, 0, i <= 3 ? 0x01 : i <= 8 ? 0x89 : 0xb9);
+        if (i <= 3) counted(0, 0, 0, none);
+        else counted(0, 0, 0, (const uint8_t[OTN_LEVELS]){[3] = 1});
+        check(stands(DBIAE, i, 11, 11, 4) && stands(DBDI, i, 8, 11, 4) && stands(CBDI, i, 8, 11, 4), "dBIAE at the third BEI 1011");
+    }
+    check(word_at(record_at(5) + NEAR) == 8 && word_at(record_at(5) + FAR) == 5 && sup[record_at(5) + DS] == 0 && sup[record_at(5) + DS + 1] == 1, "dBIAE, before the discard");
+    closes((const uint32_t[44]){1, 11, 11, [32] = 8}, "dBIAE, its second");
+
+    /* 7: SSF forgets the STAT: dLTC again three frames after it */
+    check(plain(1) == 0 && given(1) == 0, "fresh, level 1");
+    memset(overhead, 0, sizeof overhead);
+    mfas = 0;
+    for (int i = 1; i <= 12; i++) {
+        counted(i == 6 || i == 7, 0, 0, none);
+        check(stands(DLTC, i, 3, 5, 1) + stands(DLTC, i, 10, 12, 1) >= 1 && stands(SSF, i, 6, 7, 1) && stands(CSSF, i, 6, 7, 1), "dLTC after SSF");
+        check(i < 6 || i > 9 || !OTN_TCM_DLTC(report(1)), "dLTC, forgotten in SSF");
+    }
+
+    /* 8: otn_step has no count for a level: near stays 0, far goes on */
+    check(plain(1) == 0 && given(5) == 0, "fresh, level 5");
+    memset(overhead, 0, sizeof overhead);
+    tandem(5, 0, 0x31);
+    mfas = 0;
+    for (int i = 0; i < 4; i++) aligned(0, 0, 0);
+    closes((const uint32_t[44]){1, 4, 4, [37] = 4}, "a level's second of otn_step");
+
+    /* both calls in one second, in any order */
+    check(plain(1) == 0 && given(5) == 0, "fresh, level 5");
+    for (int i = 0; i < 6; i++) i & 1 ? (void)aligned(0, 0, 0) : (void)counted(0, 0, 0, ones);
+    closes((const uint32_t[44]){1, 6, 6, [36] = 3, 6}, "a second of both calls");
+
+    /* 10: bytes and counts of a level that is not provisioned are not looked at */
+    check(plain(1) == 0 && given(5) == 0, "fresh, level 5");
+    uint8_t other[ALL];
+    memcpy(other, sup, ALL);
+    uint32_t seed = 7;
+    for (int i = 0; i < 300; i++) {
+        uint8_t o[64];
+        send((uint8_t)i, (uint8_t)(i / 9), (uint8_t)(i / 5));
+        tandem(5, (uint8_t)i, (uint8_t)(i / 7));
+        memcpy(o, overhead, 64);
+        for (unsigned n = 1; n <= OTN_LEVELS; n++)
+            for (int j = 0; j < 3 && n != 5; j++) o[field[1 + n] + j] = (uint8_t)(seed = seed * 1664525 + 1013904223, seed >> 24);
+        r = step_levels(0, 0, 0, (const uint8_t[OTN_LEVELS]){[4] = 1});
+        check(otn_step_levels(other, ALL, o, 64, 0, 0, 0, 8, 7, 6, 5, 1, 4) == r && memcmp(other, sup, ALL) == 0, "a level that is not provisioned");
+    }
+
+    /* each level looks at its own bytes, trace and status, and at its own count */
+    for (uint8_t n = 1; n <= OTN_LEVELS; n++) {
+        uint8_t t[OTN_LEVELS] = {0}, record[OTN_RECORD_BYTES], out[64];
+        check(all_given(2) == 0, "fresh, all levels");
+        memset(overhead, 0, sizeof overhead);
+        t[n - 1] = 1;
+        mfas = 254;
+        for (int i = 0; i < 2 + 3 * 64; i++) {
+            tandem(0, 9, 1);
+            tandem(n, (uint8_t)(10 * n), 0x1a); /* BEI 1, BDI, STAT 010 */
+            counted(0, 0, 0, t);
+        }
+        for (uint8_t m = 1; m <= OTN_LEVELS; m++) {
+            check(report(m) == (m == n ? 1u << 8 | 1u << DIAE | 1u << DBDI | 1u << CBDI : 1u << 8), "a level's own status");
+            check(word_at(record_at(1 + m) + NEAR) == (m == n ? 194 : 0) && word_at(record_at(1 + m) + FAR) == (m == n ? 194 : 0), "a level's own blocks");
+            check(otn_level_trace(sup, ALL, m, out, 64) == 0 && out[0] == (m == n ? 10 * n : 9) && out[63] == out[0], "a level's own trace");
+        }
+        check(mark(record, sizeof record) == 0 && otn_level_figure(record, n, OTN_LEVEL_NEAR) == 0, "a level's own second");
+        /* out of multiframe the cycle and the run are dropped, and the trace stays accepted */
+        for (int i = 0; i < 5; i++) mfas = 0, r = counted(0, 0, 0, none);
+        check(!OTN_IM(r) && otn_level_trace(sup, ALL, n, out, 64) == 0 && sup[record_at(1 + n) + GATHERING] + sup[record_at(1 + n) + GATHERING + 1] == 0, "out of multiframe");
+    }
+
+    /* dDEG: told by the report from the mark on that decides it, and by that level's own threshold and DEGM */
+    check(plain(1) == 0 && level(1, 2, 2, 0, 0, 32) == 0 && level(2, 3, 2, 0, 0, 32) == 0 && level(3, 1, 3, 0, 0, 32) == 0, "fresh, levels 1 to 3");
+    memset(overhead, 0, sizeof overhead);
+    tandem(0, 0, 1);
+    mfas = 0;
+    for (int second = 1; second <= 4; second++) {
+        uint8_t record[OTN_RECORD_BYTES];
+        for (int i = 0; i < 3; i++) counted(0, 0, 0, i < 2 && second < 4 ? ones : none);
+        check(mark(record, sizeof record) == 0 && otn_level_figure(record, 1, OTN_LEVEL_NEAR) == (second < 4 ? 2 : 0), "blocks of a level");
+        check(stands(TSDEG, second, 2, 4, 1) && stands(ATSD, second, 2, 4, 1) && stands(CDEG, second, 2, 4, 1), "dDEG after two seconds");
+        check(report(2) == 1 << 8 && stands(TSDEG, second, 3, 4, 3), "dDEG by the level's own provisioning");
+    }
+    tandem(1, 0, 5);
+    for (int i = 1; i <= 3; i++) {
+        counted(0, 0, 0, none);
+        check(stands(CDEG, i, 1, 2, 1) && stands(CLCK, i, 3, 3, 1) && stands(TSDEG, i, 1, 3, 1), "cDEG under dLCK");
+    }
+    closes((const uint32_t[44]){5, 3, 3, [22] = 1}, "dLCK, its second");
+    check(!OTN_TCM_DDEG(report(1)) && OTN_TCM_DDEG(report(3)), "dDEG ends at the second good one");
+
+    /* levels are silent: line, section and path answer as without them, whatever the levels bring */
+    uint8_t record[OTN_RECORD_BYTES], alone[OTN_RECORD_BYTES];
+    check(plain(3) == 0, "fresh");
+    memcpy(other, sup, ALL);
+    for (uint8_t n = 1; n <= OTN_LEVELS; n++) check(level(n, 1, 2, 3, (uint8_t)(n & 1), 32) == 0, "level");
+    for (int i = 0; i < 3000; i++) {
+        uint8_t t[OTN_LEVELS];
+        const int good = i % 400 < 330;
+        for (int j = 0; j < 64; j++) overhead[j] = (uint8_t)(seed = seed * 1664525 + 1013904223, seed >> 24);
+        for (int j = 0; j < OTN_LEVELS; j++) t[j] = (uint8_t)((seed >> (4 * j)) % 9);
+        if (i % 50 < 40) tandem(0, (uint8_t)(i % 64), (uint8_t)(i / 50));
+        if (good) send((uint8_t)(i % 64), (uint8_t)(i / 97), (uint8_t)(i / 31));
+        else mfas++;
+        const uint8_t flags = (uint8_t)(i % 700 == 699);
+        r = step_levels(flags, (uint8_t)(i % 9), (uint8_t)(i % 5), t);
+        check(otn_step(other, ALL, overhead, 64, flags, (uint8_t)(i % 9), (uint8_t)(i % 5)) == r, "levels are silent, the report");
+        if (i % 100 == 99) {
+            check(mark(record, sizeof record) == 0 && otn_mark(other, ALL, alone, sizeof alone) == 0 && memcmp(record, alone, 80) == 0, "levels are silent, the record");
+            for (int j = 80; j < OTN_RECORD_BYTES; j++) check(alone[j] == 0, "no level, no figures");
+        }
+        check(memcmp(sup, other, GIVEN) == 0, "levels are silent, the bytes");
+    }
+    memset(overhead, 0, sizeof overhead);
+}
+
 /* Buffers that end where the pages end: a byte read or written behind one ends the test. */
 static uint8_t *fenced(size_t n) {
     size_t page = 1 << 16;
@@ -376,50 +829,61 @@ static uint8_t *fenced(size_t n) {
 }
 
 static void fences(void) {
-    uint8_t *s = fenced(ALL), *o = fenced(64), *n = fenced(32), *r = fenced(80), *t = fenced(64);
+    uint8_t *s = fenced(ALL), *o = fenced(64), *n = fenced(32), *r = fenced(OTN_RECORD_BYTES), *t = fenced(64);
     if (!s || !o || !n || !r || !t) {
         check(0, "pages for the fences");
         return;
     }
     check(otn_fresh(s, ALL, 1, 1, 2, 1, 2, 3, 3, 0, 0, n, 32, n, 32) == 0, "fenced, fresh");
+    for (size_t m = 0; m < 32; m++) check(otn_level(s, ALL, 1, 1, 2, 3, 0, n + 32 - m, m) == 10, "fenced, short names of a level");
+    for (uint8_t l = 1; l <= OTN_LEVELS; l++) check(otn_level(s, ALL, l, 1, 2, 3, 0, n, 32) == 0, "fenced, level");
     for (int i = 0; i < 200; i++) {
         static const uint8_t fas[6] = {0xf6, 0xf6, 0xf6, 0x28, 0x28, 0x28};
         memcpy(o, fas, 6);
         o[6] = (uint8_t)(254 + i);
-        check(otn_refusal(otn_step(s, ALL, o, 64, 0, 0, 0)) == 0, "fenced, step");
+        check(otn_refusal(i & 1 ? otn_step(s, ALL, o, 64, 0, 0, 0) : otn_step_levels(s, ALL, o, 64, 0, 0, 0, 1, 1, 1, 1, 1, 1)) == 0, "fenced, step");
     }
     check(otn_trace(s, ALL, 0, t, 64) == 0 && otn_trace(s, ALL, 1, t, 64) == 0, "fenced, trace");
-    for (size_t m = 0; m <= 80; m++) check(otn_mark(s, ALL, r + 80 - m, m) == 0, "fenced, mark");
+    for (uint8_t l = 1; l <= OTN_LEVELS; l++) check(otn_level_trace(s, ALL, l, t, 64) == 0 && otn_refusal(otn_level_report(s, ALL, l)) == 0, "fenced, a level's readings");
+    for (size_t m = 0; m <= OTN_RECORD_BYTES; m++) check(otn_mark(s, ALL, r + OTN_RECORD_BYTES - m, m) == 0, "fenced, mark");
     for (size_t m = 0; m < ALL; m++) {
-        check(otn_step(s + ALL - m, m, o, 64, 0, 0, 0) == 17 && otn_mark(s + ALL - m, m, r, 80) == 17, "fenced, a short supervisor");
-        check(otn_trace(s + ALL - m, m, 0, t, 64) == 17, "fenced, a short supervisor's trace");
+        uint8_t *less = s + ALL - m;
+        check(otn_step(less, m, o, 64, 0, 0, 0) == 17 && otn_mark(less, m, r, OTN_RECORD_BYTES) == 17, "fenced, a short supervisor");
+        check(otn_step_levels(less, m, o, 64, 0, 0, 0, 0, 0, 0, 0, 0, 0) == 17 && otn_level(less, m, 1, 1, 2, 0, 0, n, 32) == 17, "fenced, its levels");
+        check(otn_trace(less, m, 0, t, 64) == 17 && otn_level_trace(less, m, 1, t, 64) == 17 && otn_level_report(less, m, 1) == 17, "fenced, a short supervisor's readings");
     }
     for (size_t m = 0; m < 64; m++) {
         check(otn_step(s, ALL, o + 64 - m, m, 0, 0, 0) == 1 && otn_trace(s, ALL, 0, t + 64 - m, m) == 12, "fenced, short buffers");
+        check(otn_step_levels(s, ALL, o + 64 - m, m, 0, 0, 0, 0, 0, 0, 0, 0, 0) == 1 && otn_level_trace(s, ALL, 1, t + 64 - m, m) == 12, "fenced, short buffers of levels");
         if (m < 32) check(otn_fresh(s, ALL, 1, 1, 2, 1, 2, 0, 0, 0, 0, n + 32 - m, m, n, 32) == 10, "fenced, short names");
     }
 }
 
 /* What a call takes of the stack: it runs on a painted one, and the paint that is gone is counted from the caller's frame. Each call
    is held to its own bound, and all to the header's. libcard.a is for x86-64, and so is the change of stacks. */
-enum { FRESH, STEP, MARK, TRACE, CALLS };
+enum { FRESH, LEVEL, STEP, STEP_LEVELS, MARK, TRACE, LEVEL_REPORT, LEVEL_TRACE, CALLS };
 static struct {
     const char *name;
     long bound, deepest;
-} of_call[CALLS] = {{"otn_fresh", 256, 0}, {"otn_step", 384, 0}, {"otn_mark", 448, 0}, {"otn_trace", 256, 0}};
+} of_call[CALLS] = {{"otn_fresh", 256, 0}, {"otn_level", 384, 0}, {"otn_step", 640, 0}, {"otn_step_levels", 704, 0},
+                    {"otn_mark", 768, 0}, {"otn_trace", 384, 0}, {"otn_level_report", 832, 0}, {"otn_level_trace", 448, 0}};
 
 static uint8_t stack[1 << 16] __attribute__((aligned(16)));
 static int which;
-static uint8_t flags, layer, out_bytes[80];
+static uint8_t flags, layer, one_level, out_bytes[OTN_RECORD_BYTES];
 static uint8_t *frame_of_caller;
 
 static void caller(void) {
     frame_of_caller = __builtin_frame_address(0);
     switch (which) {
     case FRESH: otn_fresh(sup, ALL, 1, 1, 2, 1, 2, 3, 3, 0, 0, names, 32, names, 32); break;
+    case LEVEL: otn_level(sup, ALL, one_level, 1, 2, 3, 0, names, 32); break;
     case STEP: otn_step(sup, ALL, overhead, 64, flags, 1, 1); break;
-    case MARK: otn_mark(sup, ALL, out_bytes, 80); break;
-    default: otn_trace(sup, ALL, layer, out_bytes, 64); break;
+    case STEP_LEVELS: otn_step_levels(sup, ALL, overhead, 64, flags, 1, 1, 1, 1, 1, 1, 1, 1); break;
+    case MARK: otn_mark(sup, ALL, out_bytes, sizeof out_bytes); break;
+    case TRACE: otn_trace(sup, ALL, layer, out_bytes, 64); break;
+    case LEVEL_REPORT: otn_level_report(sup, ALL, one_level); break;
+    default: otn_level_trace(sup, ALL, one_level, out_bytes, 64); break;
     }
 }
 
@@ -442,24 +906,39 @@ static void measure(int call) {
     if (depth > of_call[call].deepest) of_call[call].deepest = depth;
 }
 
-/* each call in many states: while the line is found, in and at the end of each cycle, with a trace accepted, then failed, then refused */
-static void depths(void) {
-    memset(overhead, 0, sizeof overhead);
-    measure(FRESH);
-    measure(TRACE);
-    mfas = 254;
-    for (int i = 0; i < 2 + 3 * 64 + 10; i++) {
-        send((uint8_t)(mfas & 63), 0xbc, 0x08);
-        measure(STEP);
-    }
+/* each call in many states, with no level, two of them and all: while the line is found, in and at the end of each cycle, with a trace
+   accepted, then failed, then refused */
+static void readings(void) {
     for (layer = 0; layer < 2; layer++) measure(TRACE);
-    measure(MARK);
-    for (flags = 1; flags < 5; flags++) measure(STEP);
-    flags = 0;
-    memset(overhead, 0, sizeof overhead);
-    for (int i = 0; i < 70; i++) measure(STEP);
-    measure(MARK);
-    measure(FRESH);
+    for (one_level = 0; one_level <= OTN_LEVELS + 1; one_level++) {
+        measure(LEVEL_REPORT);
+        measure(LEVEL_TRACE);
+    }
+}
+
+static void depths(void) {
+    for (int some = 0; some < 3; some++)
+        for (int call = STEP; call <= STEP_LEVELS; call++) {
+            memset(overhead, 0, sizeof overhead);
+            measure(FRESH);
+            for (one_level = 0; one_level <= OTN_LEVELS + 1 && some; one_level = (uint8_t)(one_level + (some == 2 ? 1 : 3))) measure(LEVEL);
+            readings();
+            mfas = 254;
+            for (int i = 0; i < 2 + 3 * 64 + 10; i++) {
+                tandem(0, (uint8_t)(mfas & 63), 0xba);
+                send((uint8_t)(mfas & 63), 0xbc, 0x08);
+                measure(call);
+            }
+            readings();
+            measure(MARK);
+            for (flags = 1; flags < 5; flags++) measure(call);
+            flags = 0;
+            memset(overhead, 0, sizeof overhead);
+            for (int i = 0; i < 70; i++) measure(call);
+            measure(LEVEL);
+            measure(MARK);
+            measure(FRESH);
+        }
     for (int i = 0; i < CALLS; i++) {
         printf("stack of %s: %ld bytes, at most %ld\n", of_call[i].name, of_call[i].deepest, of_call[i].bound);
         check(of_call[i].deepest > 0 && of_call[i].deepest <= of_call[i].bound, "the stack that a call may take");
@@ -472,12 +951,16 @@ int main(int words, char **word) {
     (void)word;
     memset(room, 0xc3, sizeof room);
     refusals_of_fresh();
+    refusals_of_level();
     refusals_of_step();
+    refusals_of_step_levels();
     refusals_of_mark();
     refusals_of_trace();
+    refusals_of_readings();
     rows();
     ranges();
     frames();
+    levels();
     fences();
     if (words == 1) depths();
     for (int i = 0; i < GUARD; i++) check(room[i] == 0xc3 && room[GUARD + OTN_SUPERVISOR_BYTES + i] == 0xc3, "no byte around the supervisor");

@@ -14,8 +14,8 @@ warnings=(-std=c11 -O2 -Wall -Wextra -Werror -I"$out")
 awk -F ' *[|] *' '
     $2 == "Offset" { arrays = $3 == "Array" }
     $2 !~ /^[0-9]/ { next }
-    arrays { printf "ARRAY(%d, %d)\n", $2, $4; next }
     { n = split($2, at, / to |, /); last = at[n] + 0; apart = $2 ~ / to / ? $3 : 0 }
+    arrays { for (i = 1; i <= n; i++) printf "ARRAY(%d, %d)\n", at[i], $4; next }
     apart { for (i = at[1] + 0; i <= last; i += apart) printf "NUMBER(%d, %d, %s, %s)\n", i, $3, $5, $6; next }
     { for (i = 1; i <= n; i++) printf "NUMBER(%d, %d, %s, %s)\n", at[i], $3, $5, $6 }' docs/SUPERVISOR.md >"$out/supervisor_bytes.h"
 

@@ -22,7 +22,7 @@ while IFS= read -r place; do
     done
 done < <(grep '^|' docs/CLAUSES.md | grep -oE '[a-z]+/[A-Z][A-Za-z0-9]+( `[A-Za-z0-9]+`(, `[A-Za-z0-9]+`)*)?')
 
-# the header's numbers, against the tables of the statements: a report's bits, and a record's words
+# the header's numbers, against the tables of the statements: the bits of a report and of a level's, a record's words and a level's in it
 while read -r name from width; do
     case $width in
     1) grep -Eq "^#define $name\(r\) otn_report_bit\(r, $from\)$" include/otn.h || says "include/otn.h: $name is not bit $from" ;;
@@ -37,13 +37,18 @@ while read -r name from width; do
 done < <(sed -nE 's/^ *(∷ )?bits "([A-Za-z_]+)" ([0-9]+) ([0-9]+) .*/\2 \3 \4/p' crates/word/specs/Table.antt)
 while read -r name at; do
     grep -Eq "^    $name = $at\b" include/otn.h || says "include/otn.h: $name is not word $at"
-done < <(sed -nE 's/^ *(∷ )?word "([A-Za-z_]+)" ([0-9]+) .*/\2 \3/p' crates/calls/specs/Words.antt)
+done < <(sed -nE 's/^ *(∷ )?(word|levelWord) "([A-Za-z_]+)" ([0-9]+) .*/\3 \4/p' crates/calls/specs/Words.antt)
 for name in $(grep -oE '^#define [A-Z_]+\(r\) otn_report_bit' include/otn.h | sed -E 's/#define ([A-Z_]+).*/\1/'); do
     grep -q "bits \"$name\" " crates/word/specs/Table.antt || says "include/otn.h: no table has $name"
 done
-for name in $(sed -n '/^enum otn_figure/,/^}/p' include/otn.h | grep -oE 'OTN_[A-Z_]+'); do
-    grep -q "word \"$name\" " crates/calls/specs/Words.antt || says "include/otn.h: no table has $name"
-done
+# tabled ENUM ROW: each member of the enum has such a row
+tabled() {
+    for name in $(sed -n "/^enum $1 /,/^}/p" include/otn.h | grep -oE 'OTN_[A-Z_]+'); do
+        grep -Eq "(^| )$2 \"$name\" " crates/calls/specs/Words.antt || says "include/otn.h: no table has $name"
+    done
+}
+tabled otn_figure word
+tabled otn_level_figure levelWord
 
 # the rows of functions: | `crate::name` .. | what | edits | refutations |; those of theorems end in edits as crate/label
 named=$(mktemp)

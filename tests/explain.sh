@@ -1,5 +1,5 @@
 #!/usr/bin/env bash
-# Runs the program explain on traces and holds what it writes to document 01 and docs/BENCH.md. Status 0 where all is as it should be.
+# Runs the program explain on traces and holds what it writes to documents 01 and 02 and docs/BENCH.md. Status 0 where all is as it should be.
 . "$(dirname "$0")/common.sh"
 [ -x target/bin/ledger ] || rt check ledger || exit 1
 [ -x target/bin/explain ] || rt check explain || exit 1
@@ -76,6 +76,34 @@ gives "$(line 'F 1 2 2 +IF' 'F 1 3 3 +IM +SM.dBIAE' 'F 1 5 5 +SM.dIAE +SM.aBIAE'
 # MFAS sticks: out of multiframe at the fifth other one, dLOM 61 frames later, and over at the second right one
 gives "$(line "$aligned" 'F 1 8 8 -IM' "F 1 69 69 +dLOM $failing +cLOM +SM.cSSF +PM.cSSF head=4" \
     "F 1 75 75 +IM -dLOM $clearing -cLOM -SM.cSSF -PM.cSSF head=0" 'E 0 75')" P 'G*3' 'G:mfas=200*70' 'G*2'
+
+# tandem levels: none is told that is not provisioned, whatever its bytes; a refusal has no line
+gives "$(line "$aligned" 'E 0 5')" P 'G5:st1=7,tti1=9,t1=8*5'
+gives "$(line "$aligned" 'R 19 384' 'E 0 3')" P L:level=2 L:level=3 'G:st2=1,st3=1*3' 'G5*2'
+# dLTC at the third STAT 000; SSF forgets the STAT, and aTSF stands on
+told="F 1 3 3 +IM +TCM1.dLTC +TCM1.aTSF +TCM1.cLTC"
+gives "$(line 'F 1 2 2 +IF' "$told" "F 1 6 6 +TSF-P $failing +SM.cSSF +PM.cSSF +TCM1.SSF -TCM1.dLTC +TCM1.cSSF -TCM1.cLTC head=1" \
+    "F 1 8 8 -TSF-P $clearing -SM.cSSF -PM.cSSF -TCM1.SSF -TCM1.aTSF -TCM1.cSSF head=0" \
+    'F 1 10 10 +TCM1.dLTC +TCM1.aTSF +TCM1.cLTC' 'S 1 12 10 2 0 0 0 0 0 0 0 0 0 0 1 0 0 0 1 0 4 0 1 0' 'E 1 12')" \
+    P L 'G5:t1=1*5' 'G5:flags=1,t1=1*2' 'G5:t1=1*5' M
+# levels after the path, the lowest first, each in the order of otn_level_report's bits
+gives "$(line 'F 1 2 2 +IF' 'F 1 3 3 +IM +PM.dLCK +PM.aTSF +PM.aBDI +PM.cLCK +TCM2.dAIS +TCM2.aTSF +TCM2.cSSF +TCM5.dOCI +TCM5.aTSF +TCM5.cOCI head=8' \
+    'F 1 5 5 +TCM5.dBDI' 'F 1 8 8 -PM.dLCK -PM.aTSF -PM.aBDI -PM.cLCK -TCM2.dAIS -TCM2.aTSF -TCM2.cSSF -TCM5.dOCI -TCM5.aTSF -TCM5.cOCI +TCM5.cBDI head=0' 'E 0 8')" \
+    P L:level=5 L:level=2 'G:pst=5,st2=0x0f,st5=0x0e*5' 'G:pst=1,st2=1,st5=9*3'
+# BIAE in BEI, and IAE by STAT
+gives "$(line 'F 1 2 2 +IF' 'F 1 3 3 +IM +TCM4.dIAE +TCM4.dBIAE' 'F 1 6 6 -TCM4.dBIAE' 'F 1 9 9 -TCM4.dIAE' 'E 0 9')" \
+    P L:level=4 'G5:st4=0xb2*3' 'G5:st4=2*3' 'G5:st4=1*3'
+# a level's trace after the path's: dTIM masks dIAE, acting or not, and dAIS forgets the trace; the accepted STAT stays
+for dis in 0 1; do
+    acts=([0]='+TCM3.aTSF ' [1]='') then=([0]='' [1]='+TCM3.aTSF ')
+    gives "$(line 'F 1 2 2 +IF' 'F 1 3 3 +IM +TCM3.dIAE' \
+        "F 1 256 256 +TCM3.dTIM -TCM3.dIAE ${acts[dis]}+TCM3.cTIM ${accepted#F 1 256 256 } TCM3.trace=\"$(all X)\"" \
+        "F 1 259 259 +TCM3.dAIS -TCM3.dTIM ${then[dis]}+TCM3.cSSF -TCM3.cTIM -TCM3.trace" 'E 0 259')" \
+        P L:level=3,mode=1,name=1,dis=$dis 'G:stti=65,ptti=80,tti3=88,st3=2*256' 'G:stti=65,ptti=80,tti3=88,st3=7*3'
+done
+# a level's dDEG is told with the frame after the mark
+gives "$(line "$aligned" "S 1 ${clear//1 1/3 3} 3 0 0 0" "S 2 ${clear//1 1/3 3} 3 0 0 0" 'F 3 1 7 +TCM6.dDEG +TCM6.aTSD +TCM6.cDEG' 'E 2 7')" \
+    P L:level=6 'G5:t6=1,st6=1*3' M 'G5:t6=2,st6=1*3' M G5:st6=1
 
 # the same from a pipe, in pieces of 7 bytes, and an input without end
 "$work/trace" P 'G:stti=65,ptti=80*300' M 'G:flags=2*3' > "$work/in"

@@ -1,5 +1,5 @@
 #!/usr/bin/env bash
-# Runs the program ledger on traces and holds what it writes to document 01. Status 0 where all is as it should be.
+# Runs the program ledger on traces and holds what it writes to documents 01 and 02. Status 0 where all is as it should be.
 . "$(dirname "$0")/common.sh"
 [ -x target/bin/ledger ] || rt check ledger || exit 1
 program=bin/ledger
@@ -66,6 +66,77 @@ gives 'E 0 0' P:pdis=2
 gives "$(line 'S 1 400000 61 0 0 399939 0 0 0 0 0 0 0 0 1 0 0 0 1 0' 'E 1 400000')" P 'Z*400000' M
 gives "$(line 'R 4 28400083' 'E 0 400000')" P 'Z*400001' M
 gives "$(line 'R 2 28400083' 'E 0 400000')" P 'Z*400000' Z:flags=4
+
+# tandem levels, kind 4. 14 and 15 as for every kind
+gives "$(line 'R 14 0' 'E 0 0')" L -1
+gives "$(line 'R 14 83' 'E 0 0')" P L -40
+gives "$(line 'R 14 127' 'E 0 0')" P L L:level=7 -1
+gives "$(line 'R 15 83' 'E 0 0')" P B:2b000400
+gives "$(line 'R 15 83' 'E 0 0')" P B:29000400
+# 16: before the provisioning, and after a frame or a mark, also with bad fields
+gives "$(line 'R 16 0' 'E 0 0')" L
+gives "$(line 'R 16 0' 'E 0 0')" L:level=7
+gives "$(line 'R 16 154' 'E 0 1')" P Z L
+gives "$(line 'R 16 160' 'E 0 1')" P Z5 L:level=0,thr=0
+gives "$(line 'S 1 0 0 0 0 0 0 0 0 0 0 0 0 0 0 0 0 0 0 0' 'R 16 87' 'E 1 0')" P M L
+gives "$(line 'R 16 127' 'E 0 0')" P L P
+# 18: no level, or given twice; before 6 to 9
+gives "$(line 'R 18 83' 'E 0 0')" P L:level=0
+gives "$(line 'R 18 83' 'E 0 0')" P L:level=7,degm=0
+gives "$(line 'R 18 83' 'E 0 0')" P L:level=255
+gives "$(line 'R 18 127' 'E 0 0')" P L L
+gives "$(line 'R 18 171' 'E 0 0')" P L:level=6 L L:level=6,thr=0,name=7
+# 6 to 9, DEGThr by the k of the provisioning
+gives "$(line 'R 6 83' 'E 0 0')" P L:thr=20421
+gives 'E 0 0' P L:thr=20420,degm=10,mode=3,dis=2
+gives "$(line 'R 6 83' 'E 0 0')" P:k=2 L:thr=82026,degm=1
+gives 'E 0 0' P:k=3 L:thr=329492
+gives "$(line 'R 6 83' 'E 0 0')" P L:thr=0
+gives "$(line 'R 7 83' 'E 0 0')" P L:degm=1,mode=4
+gives "$(line 'R 7 127' 'E 0 0')" P L L:level=2,degm=11
+gives "$(line 'R 8 83' 'E 0 0')" P L:mode=4,dis=3
+gives "$(line 'R 9 83' 'E 0 0')" P L:dis=3
+# frames with counts of levels, kind 5: 14, 15, 16
+gives "$(line 'R 14 0' 'E 0 0')" Z5 -1
+gives "$(line 'R 14 83' 'E 0 0')" P Z5 -6
+gives "$(line 'R 15 83' 'E 0 0')" P B:45000500
+gives "$(line 'R 15 83' 'E 0 0')" P B:4b000100
+gives "$(line 'R 16 0' 'E 0 0')" Z5:t1=9
+# 19: the other kind of frame, before 2, 3 and 4; a mark is of no kind
+gives "$(line 'R 19 160' 'E 0 1')" P Z5 Z:sm=9
+gives "$(line 'R 19 154' 'E 0 1')" P Z Z5:flags=4,t1=9
+gives "$(line 'S 1 1 1 0 0 0 0 0 0 0 0 0 0 0 0 0 0 0 0 0 0 0 0 0' 'R 19 202' 'E 1 1')" P L Z M Z5
+gives "$(line 'R 2 83' 'E 0 0')" P Z5:flags=4,t1=9
+gives "$(line 'R 3 83' 'E 0 0')" P Z5:t6=9
+for n in 1 2 3 4 5 6; do gives "$(line 'R 3 204' 'E 0 1')" P L Z5:t$n=8 Z5:t$n=9; done
+gives "$(line 'R 3 83' 'E 0 0')" P Z5:pm=9
+gives "$(line 'R 4 30800083' 'E 0 400000')" P 'Z5*400001' M
+gives "$(line 'R 3 30800083' 'E 0 400000')" P 'Z5*400000' Z5:t4=9
+# without a level kind 5 lists as kind 1, and so does kind 1 with one, but for the level's figures
+gives "$(line 'S 1 10 10 0 0 0 0 0 0 0 0 0 10 10 0 0 10 10 0 0' 'E 1 10')" P 'G5:sm=1,pm=8,t1=8,t6=8,sst=0x10,pst=0x81*10' M
+gives "$(line 'S 1 4 4 0 0 0 0 0 0 0 0 0 0 0 0 0 0 0 0 0 0 4 0 0' 'E 1 4')" P L:level=5 'G:st5=0x31*4' M
+# dLTC from the third frame on: two are counted, and the path does not hear of it
+gives "$(line 'S 1 5 5 0 0 0 0 0 0 0 0 0 5 0 0 0 5 0 0 0 2 0 1 0' 'E 1 5')" P L 'G5:sm=1,pm=1,t1=1,t2=1,t3=1,t4=1,t5=1,t6=1*5' M
+# dIAE discards the level's second, and no other
+gives "$(line 'S 1 9 9 0 0 0 0 0 0 0 0 0 9 0 0 0 9 0 0 0 0 0 0 0' 'E 1 9')" \
+    P L:level=2 'G5:sm=1,pm=1,t2=1,st2=1*3' 'G5:sm=1,pm=1,t2=1,st2=0x12*3' 'G5:sm=1,pm=1,t2=1,st2=1*3' M
+# dAIS of the path and of a level, levels 1 and 6
+gives "$(line 'S 1 8 5 0 0 0 0 0 3 0 0 0 0 0 0 0 2 0 1 0 5 0 0 0 5 0 0 0' 'E 1 8')" \
+    P L L:level=6 'G5:st1=1,st6=1,pst=1*3' 'G5:st1=1,st6=1,pst=7,pm=1,t1=1,t6=1*5' M
+gives "$(line 'S 1 8 8 0 0 0 0 0 0 0 0 0 0 0 0 0 5 0 0 0 2 0 1 0 5 0 0 0' 'E 1 8')" \
+    P L L:level=6 'G5:st1=1,st6=1,pst=1*3' 'G5:st1=7,st6=1,pst=1,pm=1,t1=1,t6=1*5' M
+# dBIAE discards the far values
+gives "$(line 'S 1 11 11 0 0 0 0 0 0 0 0 0 0 0 0 0 0 0 0 0 8 0 0 0' 'E 1 11')" P L:level=4 'G5:st4=1*3' 'G5:st4=0x89,t4=1*5' 'G5:st4=0xb9,t4=1*3' M
+# the lowest level first, in whatever order they are given; all six
+gives "$(line 'S 1 3 3 0 0 0 0 0 0 0 0 0 0 0 0 0 0 0 0 0 3 0 0 0 0 3 0 0' 'E 1 3')" P L:level=6 L:level=2 'G5:t2=1,st2=1,st6=0x11*3' M
+gives "$(line 'S 1 6 6 0 0 0 0 0 0 0 0 0 0 0 0 0 0 0 0 0 6 0 0 0 0 6 0 0 2 0 1 0 0 0 0 0 6 0 0 0 0 6 0 1' 'E 1 6')" \
+    P L:level={5,1,4,6,3,2} 'G5:t1=1,st1=1,st2=0x11,t3=1,t4=1,st4=2,t5=1,st5=1,st6=0x89*6' M
+# bytes and counts of a level that is not provisioned: the same listing
+name='another level'
+said "$(printed P L:level=5 'G5:st5=0x11,t5=1*9' M)" "$(printed P L:level=5 'G5:st5=0x11,t5=1,tti4=85,st4=0xbf,t4=8*9' M)"
+# records of levels across the border of the buffer
+gives 'E 0 60' P L 'Z5*60'
+ends "$(line 'R 3 4087' 'E 0 52')" P 'Z5*52' Z5:t1=9
 
 # blocks near and far in both layers
 gives "$(line 'S 1 10 10 0 0 0 0 0 0 0 0 0 10 10 0 0 10 10 0 0' 'E 1 10')" P 'G:sm=1,pm=8,sst=0x10,pst=0x81*10' M

@@ -175,35 +175,51 @@ while read -r member at; do
     *) row "$((at + 2)) \| \`$member\`" ;;
     esac
 done < <(enum otn_figure)
+while read -r member at; do row "$((at + 22)) \| \`$member\`"; done < <(enum otn_level_figure)
 while read -r member head; do row "$head \| $((head + 4)) \| \`$member\`"; done < <(enum otn_head)
 while read -r member number; do
     [ "$number" = 0 ] || row "$number \| \`$member\` \| .* \| (yes|no)"
 done < <(enum otn_refusal)
-for number in {1..17}; do row "$number \| (\`OTN_[A-Z_]+\`)? ?\| .* \| (yes|no)"; done
+for number in {1..19}; do row "$number \| (\`OTN_[A-Z_]+\`)? ?\| .* \| (yes|no)"; done
 # a trace for each number that is said to be met in a listing, and no other
 met=
-for words in 'P Z:flags=4' 'P Z:sm=9' 'P Z*400001' P:k=4 P:sthr=0 P:pdegm=1 P:smode=4 P:pdis=3 B:02 B:02000400 Z; do
+for words in 'P Z:flags=4' 'P Z:sm=9' 'P Z*400001' P:k=4 P:sthr=0 P:pdegm=1 P:smode=4 P:pdis=3 B:02 B:02000400 Z 'P L:level=7' 'P Z Z5'; do
     "$work/trace" $words > "$work/in"
     met+=$(bin/ledger "$work/in" | sed -n 's/^R \([0-9]*\) .*/ \1/p')
 done
 name='docs/LISTING.md: the refusals met in a listing'
 said "$met" "$(sed -nE 's/^\| ([0-9]+) \|.*\| yes \|$/ \1/p' docs/LISTING.md | tr -d '\n')"
 
-# the bytes of records: where a field's value shows, a row of the table begins
-shows() { # WORD OFFSETS..
-    local word=$1 pair
-    shift
-    for pair; do
-        "$work/trace" "$word" > "$work/a"
-        "$work/trace" "$word:${pair%=*}=3" > "$work/b"
-        name="docs/LISTING.md: ${pair%=*} in a record"
-        said "$((${pair#*=} + 1))" "$(cmp "$work/a" "$work/b" | sed -E 's/.*byte ([0-9]+),.*/\1/')"
-        said yes "$(grep -Eq "^\| ([0-9]+, )?${pair#*=}( to [0-9]+|, [0-9]+)? \|" docs/LISTING.md && echo yes)"
+# the bytes of records: where a field's value shows
+at() { # WORD FIELD OFFSET
+    "$work/trace" "$1" > "$work/a"
+    "$work/trace" "$1:$2=3" > "$work/b"
+    name="docs/LISTING.md: $2 in a record"
+    said "$(($3 + 1))" "$(cmp "$work/a" "$work/b" | sed -E 's/.*byte ([0-9]+),.*/\1/')"
+}
+# there a row of the record's table begins, and its length is the record's
+shows() { # RECORD WORD FIELD=OFFSET..
+    local table=$(sed -nE "/^A \*\*$1\*\*/,/^(A \*\*|##)/p" docs/LISTING.md) word=$2 pair
+    name="docs/LISTING.md: the length of a $1"
+    said "$(($("$work/trace" "$word" | wc -c) - 2))" "$(head -n 1 <<< "$table" | sed -E 's/.*length ([0-9]+)\).*/\1/')"
+    for pair in "${@:3}"; do
+        at "$word" "${pair%=*}" "${pair#*=}"
+        said yes "$(grep -Eq "^\| ([0-9]+, )?${pair#*=}( to [0-9]+|, [0-9]+)? \|" <<< "$table" && echo yes)"
     done
 }
-shows Z flags=68 sm=69 pm=70 stti=11 sst=13 ptti=45 pst=47
-shows N mfas=10
-shows P k=4 sthr=5 sdegm=9 pthr=10 pdegm=14 smode=15 pmode=16 sdis=17 pdis=18 sname=19 pname=51
+shows frame Z flags=68 sm=69 pm=70 stti=11 sst=13 ptti=45 pst=47
+shows frame N mfas=10
+shows provisioning P k=4 sthr=5 sdegm=9 pthr=10 pdegm=14 smode=15 pmode=16 sdis=17 pdis=18 sname=19 pname=51
+shows "level's provisioning" L level=4 thr=5 degm=9 mode=10 dis=11 name=12
+shows "frame with the levels' counts" Z5 t1=71
+levels=(- 42 39 36 30 27 24) # the trace byte of each
+for n in {1..6}; do
+    first=${levels[n]}
+    at Z "tti$n" "$first"
+    at Z "st$n" "$((first + 2))"
+    at Z5 "t$n" "$((70 + n))"
+    row "$first to $((first + 2)) \| $(((first - 4) / 16 + 1)), $(((first - 4) % 16 + 1)) to $(((first - 4) % 16 + 3)) \| level $n: .*"
+done
 # the worked example, byte by byte and column by column
 name="docs/LISTING.md: the worked example's bytes"
 section=$(sed -n '/^## The worked example/,$p' docs/LISTING.md)
@@ -279,6 +295,7 @@ for block in "$work"/blocks/*[0-9]; do
         case $(cat "$block") in
         *'bin/explain my.trace'*) said "$(cat examples/scenarios/one-cut-once.explained)" "$(cat "$work/out")" ;;
         *'second --explain'*) said "$(cat examples/scenarios/one-cut-once.explained)" "$(cat "$work/out")" ;;
+        *scenarios/tandem.txt*) said "$(cat examples/scenarios/tandem.explained)" "$(cat "$work/out")" ;;
         *firmware*) said "$(cat examples/firmware.txt)" "$(cat "$work/out")" ;;
         esac
     elif grep -Eq '^[SREF] [0-9]' "$block"; then

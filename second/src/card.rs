@@ -2,7 +2,6 @@
 
 use crate::provisioning::{LevelProvisioning, Provisioning};
 use crate::supervisor::{Second, Supervisor};
-use crate::WITH_LEVELS;
 
 /// The word a call answers.
 pub fn word(answer: Result<u64, u8>) -> u64 {
@@ -10,10 +9,10 @@ pub fn word(answer: Result<u64, u8>) -> u64 {
 }
 
 /// Bytes of the record that otn_mark stores.
-pub const RECORD: usize = if WITH_LEVELS { 176 } else { 80 };
+pub const RECORD: usize = 176;
 
-/// The bytes otn_mark stores in a buffer, as many as it has room for; the rest keep their contents. With levels each level has its
-/// fixed place, and there are zeros where it is not provisioned.
+/// The bytes otn_mark stores in a buffer, as many as it has room for; the rest keep their contents. Each level has its fixed place,
+/// and there are zeros where it is not provisioned.
 pub fn record(second: &Second, buffer: &mut [u8]) {
     let levels = second.levels.iter().flat_map(|four| four.unwrap_or([0; 4]));
     let bytes = second.figures.into_iter().chain(levels).flat_map(u32::to_le_bytes);

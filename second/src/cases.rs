@@ -15,7 +15,7 @@
 //! listing                      the rest of the file is the listing
 //! ```
 //!
-//! With levels (cases-levels/):
+//! With levels:
 //!
 //! ```text
 //! none                         in the place of provision: no provisioning record, and what is expected is of a plain one
@@ -42,6 +42,9 @@ use crate::supervisor::Supervisor;
 #[derive(Clone, Debug)]
 pub struct Case {
     pub provisioning: Provisioning,
+    /// The levels whose records are accepted.
+    pub levels: Vec<(u8, LevelProvisioning)>,
+    /// A frame of kind 1 has six counts 0 here.
     pub items: Vec<Item>,
     pub bytes: Vec<u8>,
     pub listing: String,
@@ -225,7 +228,8 @@ pub fn read(text: &str) -> Result<Case, String> {
     if fields[0] == "provision" {
         trace.provisioning(&p);
     }
-    let mut case = Case { provisioning: p.clone(), items: Vec::new(), bytes: Vec::new(), listing, unmet: Vec::new() };
+    let mut case =
+        Case { provisioning: p.clone(), levels: Vec::new(), items: Vec::new(), bytes: Vec::new(), listing, unmet: Vec::new() };
     let mut s = Supervisor::fresh(p);
     let mut count = 0u8;
     let mut word = 0u64;
@@ -242,9 +246,12 @@ pub fn read(text: &str) -> Result<Case, String> {
                 let value = number(words.get(1).copied().unwrap_or("")).map_err(fail)?;
                 let mut left = if words[0] == "to" { u64::MAX } else { value };
                 while left > 0 {
-                    let f = frame(zeros, count, &words[2..]).map_err(fail)?;
+                    let mut f = frame(zeros, count, &words[2..]).map_err(fail)?;
                     let (sm, pm) = (f.violations[0], f.violations[1]);
-                    let counts = if with_counts { f.counts() } else { [0; 6] };
+                    if !with_counts {
+                        f.levels.iter_mut().for_each(|l| l.violations = 0);
+                    }
+                    let counts = f.counts();
                     match with_counts {
                         true => trace.frame_levels(&f.overhead(), f.flags, sm, pm, counts),
                         false => trace.frame(&f.overhead(), f.flags, sm, pm),
@@ -269,7 +276,8 @@ pub fn read(text: &str) -> Result<Case, String> {
                 let (level, p) = (number(level).map_err(fail)? as u8, level_provision(&words[2..]).map_err(fail)?);
                 trace.level(level, &p);
                 if !s.begun() && s.takes(level) {
-                    s.provision(level, p);
+                    s.provision(level, p.clone());
+                    case.levels.push((level, p));
                 }
             }
             "counts" => with_counts = true,

@@ -83,7 +83,7 @@ pub struct Cover {
     pub cleared: [u64; 15],
     pub pairs: [[u64; 15]; 15],
     /// Refusals by number, calls and records together.
-    pub refusals: [u64; 18],
+    pub refusals: [u64; 20],
 }
 
 impl Cover {
@@ -120,7 +120,7 @@ impl Cover {
             out += &format!(" {value}");
             row(format!("head {head}"), *value, true);
         }
-        out += "\nrefusals 1 to 17:";
+        out += "\nrefusals 1 to 19:";
         for (number, value) in self.refusals.iter().enumerate().skip(1) {
             out += &format!(" {value}");
             row(format!("refusal {number}"), *value, true);

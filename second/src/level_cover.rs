@@ -15,6 +15,7 @@
 
 use crate::level::Standing;
 use crate::report::level_bits;
+use crate::supervisor::Supervisor;
 
 pub const CONDITIONS: [&str; 10] = ["SSF", "dLTC", "dAIS", "dOCI", "dLCK", "dTIM", "dBDI", "dIAE", "dBIAE", "dDEG"];
 pub const SSF: usize = 0;
@@ -52,6 +53,16 @@ pub struct LevelCover {
 }
 
 impl LevelCover {
+    /// What changed at each provisioned level since the frame before.
+    pub fn follow(&mut self, s: &Supervisor, before: &mut [Standing; 6]) {
+        for (level, before) in (1..).zip(before) {
+            if let Some(after) = s.level(level).map(|l| l.standing()) {
+                self.frame(level, before, &after);
+                *before = after;
+            }
+        }
+    }
+
     /// What stood of a level after one frame, and after the next.
     pub fn frame(&mut self, level: u8, before: &Standing, after: &Standing) {
         self.frames += 1;

@@ -5,8 +5,7 @@
 //! three cycles that end here, the OOF frames with no long IF stretch between them. A look-back stops after a window of frames and
 //! takes up the answer recorded there, which is the same question put to the same history.
 //!
-//! Request K1, six tandem levels, is written behind the feature `levels`. Without it records of kinds 4 and 5 are unknown and
-//! otn_mark's record has twenty figures.
+//! The six tandem levels of document 02 (K1) are written the same way, each over its own history: `level.rs`.
 
 pub mod card;
 pub mod cases;
@@ -25,11 +24,8 @@ pub mod reader;
 pub mod report;
 pub mod supervisor;
 
-/// Whether tandem levels are known.
-pub const WITH_LEVELS: bool = cfg!(feature = "levels");
-
 #[cfg(test)]
 mod tests;
 
-#[cfg(all(test, feature = "levels"))]
+#[cfg(test)]
 mod tests_levels;

@@ -3,7 +3,6 @@
 use crate::listing;
 use crate::provisioning::{LevelProvisioning, Provisioning};
 use crate::supervisor::Supervisor;
-use crate::WITH_LEVELS;
 
 #[derive(Clone, Debug, PartialEq, Eq)]
 pub enum Record<'a> {
@@ -29,8 +28,7 @@ pub fn record(rest: &[u8]) -> Result<(Record<'_>, usize), u8> {
     let length = usize::from(u16::from_le_bytes([rest[0], rest[1]]));
     let kind = u16::from_le_bytes([rest[2], rest[3]]);
     match (kind, length) {
-        (1, 69) | (2, 2) | (3, 81) => {}
-        (4, 42) | (5, 75) if WITH_LEVELS => {}
+        (1, 69) | (2, 2) | (3, 81) | (4, 42) | (5, 75) => {}
         _ => return Err(15),
     }
     let whole = length + 2;

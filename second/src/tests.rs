@@ -705,7 +705,7 @@ fn directed_cases() {
         assert_eq!(list(&case.bytes), case.listing, "{path:?}");
         count += 1;
     }
-    assert!(count >= 48);
+    assert!(count >= 94);
 }
 
 #[test]

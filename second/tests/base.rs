@@ -1,4 +1,4 @@
-//! What is read of a trace of kinds 1 to 3 does not lean on the feature `levels`: the same test stands with it and without.
+//! A trace of kinds 1 to 3 prints what it printed before there were levels.
 
 use second::explain::explain;
 use second::generate;
@@ -21,22 +21,4 @@ fn traces_without_levels_print_what_they_printed() {
         }
     }
     assert_eq!(all, 14_106_104_922_331_150_045);
-}
-
-/// Without the feature records of kinds 4 and 5 are unknown, and otn_mark's record has twenty figures.
-#[test]
-#[cfg(not(feature = "levels"))]
-fn without_the_feature_there_are_no_levels() {
-    use second::frame::{plain, plain_level};
-    let mut begun = second::reader::Trace::default();
-    begun.provisioning(&plain(1));
-    let (mut level, mut frame) = (begun.clone(), begun);
-    level.level(1, &plain_level());
-    frame.frame_levels(&[0; 64], 0, 0, 0, [0; 6]);
-    assert_eq!((list(&level.0), list(&frame.0)), ("R 15 83\nE 0 0\n".into(), "R 15 83\nE 0 0\n".into()));
-    assert_eq!(explain(&level.0), list(&level.0));
-    let mut card = second::card::Card::default();
-    card.fresh(true, Ok(plain(1)));
-    let mut record = [7; 84];
-    assert_eq!((card.mark(true, &mut record), record[79], record[80]), (0, 0, 7));
 }

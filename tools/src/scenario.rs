@@ -1,8 +1,8 @@
 //! Scenarios: a plain text of one directive to a line, and the trace that it makes. docs/BENCH.md tells the language.
 
-use crate::frame::{plain, Sent};
+use crate::frame::{plain, plain_level, Sent};
 use crate::program::{cut, decimal, quoted};
-use crate::provisioning::{Provisioning, PATH, SECTION};
+use crate::provisioning::{LevelProvisioning, Provisioning, PATH, SECTION};
 use crate::reader::Trace;
 use std::collections::VecDeque;
 use std::io::Write;
@@ -11,7 +11,11 @@ use std::io::Write;
 const CEILING: [u32; 3] = [20_420, 82_025, 329_492];
 /// STAT of a good frame: the normal path signal of G.709.
 const NORMAL: u8 = 1;
-const LAYERS: [(&str, usize); 2] = [("section", SECTION), ("path", PATH)];
+/// Section, path and tandem levels 1 to 6: what has a provisioning and a trace.
+const LAYERS: [(&str, usize); 8] =
+    [("section", SECTION), ("path", PATH), ("tcm1", 2), ("tcm2", 3), ("tcm3", 4), ("tcm4", 5), ("tcm5", 6), ("tcm6", 7)];
+/// Of the layers, the levels; level 1 is the first of them.
+const LEVELS: std::ops::Range<usize> = 2..8;
 
 /// A name's bytes and where they stand in the 64 of a trace.
 #[derive(Clone, Debug)]
@@ -35,13 +39,24 @@ enum Change {
     MfasStuck(u8),
     MfasOff(u8),
     MfasMoved(u8),
-    Stat(u8),
+    Stat(usize, u8),
     Iae,
     Flag(u8),
     Bdi(usize),
     Bei(usize, u8),
     Violations(usize, u8),
     Sends(Name),
+}
+
+impl Change {
+    /// The layer that it is of; what is of the line counts to the section.
+    fn layer(&self) -> usize {
+        match self {
+            Change::Stat(layer, _) | Change::Bdi(layer) | Change::Bei(layer, _) | Change::Violations(layer, _) => *layer,
+            Change::Sends(name) => name.layer,
+            _ => SECTION,
+        }
+    }
 }
 
 /// Frames from `first`, so many; of each `every` of them the first `burst`.
@@ -68,8 +83,11 @@ enum Mark {
 /// A scenario as read. `last` has the frames that lines named last, with the line, to be held against the number of frames.
 #[derive(Debug)]
 pub struct Scenario {
-    provisioning: Provisioning,
-    degthr_line: [usize; 2],
+    k: u8,
+    /// What is provisioned of each layer; of a level that is not, nothing.
+    asked: [Option<Asked>; 8],
+    /// Frames bring the levels' counts: a line names a level.
+    counted: bool,
     sent: Vec<Name>,
     frames: u64,
     conditions: Vec<(Span, Change)>,
@@ -78,12 +96,29 @@ pub struct Scenario {
     last: Vec<(usize, u64)>,
 }
 
+/// What a layer's lines ask for, and the line that gave its DEGThr.
+#[derive(Clone, Debug)]
+struct Asked {
+    options: LevelProvisioning,
+    degthr_line: usize,
+}
+
+impl Asked {
+    fn plain() -> Asked {
+        Asked { options: LevelProvisioning { mode: 3, ..plain_level() }, degthr_line: 0 }
+    }
+}
+
 /// A directive: its words after the first, read into the scenario.
 type Directive = fn(&mut Scenario, &mut Line) -> Result<(), String>;
-const DIRECTIVES: [(&str, Directive); 7] = [
+const DIRECTIVES: [(&str, Directive); 8] = [
     ("k", Scenario::k),
     ("section", |s, line| s.provision(SECTION, line)),
     ("path", |s, line| s.provision(PATH, line)),
+    ("tcm", |s, line| {
+        let level = line.number("a level", 1, 6)? as usize;
+        s.provision(LEVELS.start + level - 1, line)
+    }),
     ("send", Scenario::send),
     ("good", Scenario::good),
     ("from", Scenario::from),
@@ -93,8 +128,9 @@ const DIRECTIVES: [(&str, Directive); 7] = [
 /// The scenario of a text, or the number of the line that is mistaken and what was expected.
 pub fn read(text: &str) -> Result<Scenario, String> {
     let mut s = Scenario {
-        provisioning: Provisioning { mode: [3; 2], ..plain(1) },
-        degthr_line: [0; 2],
+        k: 1,
+        asked: std::array::from_fn(|layer| (!LEVELS.contains(&layer)).then(Asked::plain)),
+        counted: false,
         sent: Vec::new(),
         frames: 0,
         conditions: Vec::new(),
@@ -127,38 +163,47 @@ impl Scenario {
     }
 
     fn k(&mut self, line: &mut Line) -> Result<(), String> {
-        self.provisioning.k = line.number("k", 1, 3)? as u8;
+        self.k = line.number("k", 1, 3)? as u8;
         Ok(())
     }
 
     fn provision(&mut self, layer: usize, line: &mut Line) -> Result<(), String> {
-        type Field = fn(&mut Scenario, usize, &mut Line) -> Result<(), String>;
+        type Field = fn(&mut Asked, usize, &mut Line) -> Result<(), String>;
         let fields: [(&str, Field); 6] = [
-            ("sapi", |s, layer, line| Ok(line.name(layer, "sapi")?.put(&mut s.provisioning.names[layer]))),
-            ("dapi", |s, layer, line| Ok(line.name(layer, "dapi")?.put(&mut s.provisioning.names[layer]))),
-            ("mode", |s, layer, line| {
-                s.provisioning.mode[layer] = line.choice("a mode", &[("off", 0), ("sapi", 1), ("dapi", 2), ("both", 3)])?;
+            ("sapi", |a, _, line| Ok(line.name(SECTION, "sapi")?.put(&mut a.options.names))),
+            ("dapi", |a, _, line| Ok(line.name(SECTION, "dapi")?.put(&mut a.options.names))),
+            ("mode", |a, _, line| {
+                a.options.mode = line.choice("a mode", &[("off", 0), ("sapi", 1), ("dapi", 2), ("both", 3)])?;
                 Ok(())
             }),
-            ("act", |s, layer, line| {
-                s.provisioning.dis[layer] = line.choice("a word after act", &[("on", 0), ("off", 1), ("default", 2)])?;
+            ("act", |a, _, line| {
+                a.options.dis = line.choice("a word after act", &[("on", 0), ("off", 1), ("default", 2)])?;
                 Ok(())
             }),
-            ("degthr", |s, layer, line| {
-                s.provisioning.degthr[layer] = line.number("degthr", 1, CEILING[2].into())? as u32;
-                s.degthr_line[layer] = s.line;
+            ("degthr", |a, number, line| {
+                a.options.degthr = line.number("degthr", 1, CEILING[2].into())? as u32;
+                a.degthr_line = number;
                 Ok(())
             }),
-            ("degm", |s, layer, line| {
-                s.provisioning.degm[layer] = line.number("degm", 2, 10)? as u8;
+            ("degm", |a, _, line| {
+                a.options.degm = line.number("degm", 2, 10)? as u8;
                 Ok(())
             }),
         ];
-        line.each(|line| line.choice("a field of the provisioning", &fields)?(self, layer, line))
+        self.names(layer);
+        let number = self.line;
+        let asked = self.asked[layer].get_or_insert_with(Asked::plain);
+        line.each(|line| line.choice("a field of the provisioning", &fields)?(asked, number, line))
+    }
+
+    /// A line names a layer: where it is a level, frames bring the levels' counts.
+    fn names(&mut self, layer: usize) {
+        self.counted |= LEVELS.contains(&layer);
     }
 
     fn send(&mut self, line: &mut Line) -> Result<(), String> {
         let layer = line.choice("a layer", &LAYERS)?;
+        self.names(layer);
         line.each(|line| {
             let field = line.choice("a field of the trace", &[("sapi", "sapi"), ("dapi", "dapi"), ("operator", "operator")])?;
             self.sent.push(line.name(layer, field)?);
@@ -183,7 +228,9 @@ impl Scenario {
         }
         self.last.push((self.line, first + length - 1));
         line.each(|line| {
-            self.conditions.push((span, line.condition()?));
+            let change = line.condition()?;
+            self.names(change.layer());
+            self.conditions.push((span, change));
             Ok(())
         })
     }
@@ -206,16 +253,13 @@ impl Scenario {
 
     /// What can be said only when all lines are read.
     fn check(&self) -> Result<(), String> {
-        let p = &self.provisioning;
-        for layer in [SECTION, PATH] {
-            let ceiling = CEILING[usize::from(p.k) - 1];
-            if p.degthr[layer] > ceiling {
-                let (line, found) = (self.degthr_line[layer], p.degthr[layer]);
-                return Err(format!(
-                    "line {line}: degthr {found} is too high for k {}; expected a number from 1 to {ceiling}",
-                    p.k
-                ));
-            }
+        let ceiling = CEILING[usize::from(self.k) - 1];
+        if let Some(asked) = self.asked.iter().flatten().find(|asked| asked.options.degthr > ceiling) {
+            let (line, found) = (asked.degthr_line, asked.options.degthr);
+            return Err(format!(
+                "line {line}: degthr {found} is too high for k {}; expected a number from 1 to {ceiling}",
+                self.k
+            ));
         }
         match self.last.iter().find(|(_, frame)| *frame > self.frames) {
             None => Ok(()),
@@ -227,10 +271,10 @@ impl Scenario {
     }
 
     /// The trace that the far end sends where no condition changes it: the expected names, but for those that `send` gives.
-    fn traces(&self) -> [[u8; 64]; 2] {
-        let mut traces = [[0; 64]; 2];
-        for layer in [SECTION, PATH] {
-            traces[layer][..32].copy_from_slice(&self.provisioning.names[layer]);
+    fn traces(&self) -> [[u8; 64]; 8] {
+        let mut traces = [[0; 64]; 8];
+        for (trace, asked) in traces.iter_mut().zip(&self.asked) {
+            asked.iter().for_each(|asked| trace[..32].copy_from_slice(&asked.options.names));
         }
         for name in &self.sent {
             name.put(&mut traces[name.layer]);
@@ -239,9 +283,12 @@ impl Scenario {
     }
 
     /// Frame number `number`, from 1.
-    fn frame(&self, number: u64, mut traces: [[u8; 64]; 2]) -> Sent {
+    fn frame(&self, number: u64, mut traces: [[u8; 64]; 8]) -> Sent {
         let count = (number - 1) as u8;
         let mut f = Sent { stat: NORMAL, ..Sent::good(count) };
+        for (level, asked) in f.levels.iter_mut().zip(&self.asked[LEVELS]) {
+            level.stat = if asked.is_some() { NORMAL } else { 0 };
+        }
         // The multiframe's own number: it is the count, but for a multiframe that has moved.
         let mut place = count;
         for (_, change) in self.conditions.iter().filter(|(span, _)| span.covers(number)) {
@@ -251,17 +298,40 @@ impl Scenario {
                 Change::MfasStuck(value) => (f.mfas, place) = (*value, count),
                 Change::MfasOff(by) => (f.mfas, place) = (count.wrapping_add(*by), count),
                 Change::MfasMoved(by) => (f.mfas, place) = (count.wrapping_add(*by), count.wrapping_add(*by)),
-                Change::Stat(value) => f.stat = *value,
                 Change::Iae => f.iae = true,
                 Change::Flag(value) => f.flags |= value,
-                Change::Bdi(layer) => f.bdi[*layer] = true,
-                Change::Bei(layer, value) => f.bei[*layer] = *value,
-                Change::Violations(layer, value) => f.violations[*layer] = *value,
+                Change::Stat(PATH, value) => f.stat = *value,
+                Change::Stat(layer, value) => f.levels[layer - LEVELS.start].stat = *value,
+                Change::Bdi(layer @ (SECTION | PATH)) => f.bdi[*layer] = true,
+                Change::Bdi(layer) => f.levels[layer - LEVELS.start].bdi = true,
+                Change::Bei(layer @ (SECTION | PATH), value) => f.bei[*layer] = *value,
+                Change::Bei(layer, value) => f.levels[layer - LEVELS.start].bei = *value,
+                Change::Violations(layer @ (SECTION | PATH), value) => f.violations[*layer] = *value,
+                Change::Violations(layer, value) => f.levels[layer - LEVELS.start].violations = *value,
                 Change::Sends(name) => name.put(&mut traces[name.layer]),
             }
         }
-        f.tti = traces.map(|trace| trace[usize::from(place) % 64]);
+        let tti = traces.map(|trace| trace[usize::from(place) % 64]);
+        f.tti = [tti[SECTION], tti[PATH]];
+        f.levels.iter_mut().zip(&tti[LEVELS]).for_each(|(level, tti)| level.tti = *tti);
         f
+    }
+
+    /// The record of kind 3, and those of kind 4, the lowest level first.
+    fn provisionings(&self, t: &mut Trace) {
+        let [section, path] =
+            [SECTION, PATH].map(|layer| self.asked[layer].as_ref().expect("it is always there").options.clone());
+        t.provisioning(&Provisioning {
+            degthr: [section.degthr, path.degthr],
+            degm: [section.degm, path.degm],
+            mode: [section.mode, path.mode],
+            dis: [section.dis, path.dis],
+            names: [section.names, path.names],
+            ..plain(self.k)
+        });
+        for (level, asked) in (1..).zip(&self.asked[LEVELS]) {
+            asked.iter().for_each(|asked| t.level(level, &asked.options));
+        }
     }
 
     fn marks_after(&self, frame: u64) -> usize {
@@ -276,11 +346,15 @@ impl Scenario {
     pub fn write(&self, out: &mut dyn Write) -> std::io::Result<()> {
         let traces = self.traces();
         let mut t = Trace::default();
-        t.provisioning(&self.provisioning);
+        self.provisionings(&mut t);
         for number in 0..=self.frames {
             if number > 0 {
                 let f = self.frame(number, traces);
-                t.frame(&f.overhead(), f.flags, f.violations[SECTION], f.violations[PATH]);
+                let (sm, pm) = (f.violations[SECTION], f.violations[PATH]);
+                match self.counted {
+                    true => t.frame_levels(&f.overhead(), f.flags, sm, pm, f.counts()),
+                    false => t.frame(&f.overhead(), f.flags, sm, pm),
+                }
             }
             for _ in 0..self.marks_after(number) {
                 t.mark();
@@ -409,7 +483,7 @@ impl Line {
 
     fn condition(&mut self) -> Result<Change, String> {
         type Condition = fn(&mut Line) -> Result<Change, String>;
-        let conditions: [(&str, Condition); 7] = [
+        let conditions: [(&str, Condition); 13] = [
             ("fas", |line| match line.choice("a word after fas", &[("lost", false), ("wrong", true)])? {
                 false => Ok(Change::FasLost),
                 true => Ok(Change::FasWrong(line.number("a column of the FAS", 1, 6)? as usize)),
@@ -421,31 +495,43 @@ impl Line {
                 let make = line.choice("a word after mfas", &offered)?;
                 Ok(make(line.number("an MFAS", 0, 255)? as u8))
             }),
-            ("stat", |line| {
-                let named = [("ais", 7), ("oci", 6), ("lck", 5)].into_iter().find(|(word, _)| line.take(word));
-                Ok(Change::Stat(match named {
-                    Some((_, value)) => value,
-                    None => line.bits("a STAT", 7, ", or ais, oci or lck")?,
-                }))
-            }),
+            ("stat", |line| line.stat(PATH, &[("ais", 7), ("oci", 6), ("lck", 5)], ", or ais, oci or lck")),
             ("iae", |_| Ok(Change::Iae)),
             ("flag", |line| Ok(Change::Flag(line.choice("a flag", &[("tsf", 1), ("ais", 2)])?))),
             ("section", |line| line.of_layer(SECTION)),
             ("path", |line| line.of_layer(PATH)),
+            ("tcm1", |line| line.of_layer(2)),
+            ("tcm2", |line| line.of_layer(3)),
+            ("tcm3", |line| line.of_layer(4)),
+            ("tcm4", |line| line.of_layer(5)),
+            ("tcm5", |line| line.of_layer(6)),
+            ("tcm6", |line| line.of_layer(7)),
         ];
         self.choice("a condition", &conditions)?(self)
     }
 
+    /// A STAT, by one of its words or by number.
+    fn stat(&mut self, layer: usize, words: &[(&str, u8)], or: &str) -> Result<Change, String> {
+        let named = words.iter().find(|(word, _)| self.take(word));
+        Ok(Change::Stat(layer, named.map_or_else(|| self.bits("a STAT", 7, or), |(_, value)| Ok(*value))?))
+    }
+
     fn of_layer(&mut self, layer: usize) -> Result<Change, String> {
         type Condition = fn(&mut Line, usize) -> Result<Change, String>;
-        let conditions: [(&str, Condition); 6] = [
+        let conditions: [(&str, Condition); 7] = [
             ("bdi", |_, layer| Ok(Change::Bdi(layer))),
             ("bei", |line, layer| Ok(Change::Bei(layer, line.bits("a BEI", 15, "")?))),
             ("violations", |line, layer| Ok(Change::Violations(layer, line.number("a violation count", 0, 8)? as u8))),
             ("sapi", |line, layer| Ok(Change::Sends(line.name(layer, "sapi")?))),
             ("dapi", |line, layer| Ok(Change::Sends(line.name(layer, "dapi")?))),
             ("operator", |line, layer| Ok(Change::Sends(line.name(layer, "operator")?))),
+            ("stat", |line, layer| {
+                let words = [("ais", 7), ("oci", 6), ("lck", 5), ("iae", 2), ("ltc", 0)];
+                line.stat(layer, &words, ", or ais, oci, lck, iae or ltc")
+            }),
         ];
-        self.choice("a condition of a layer", &conditions)?(self, layer)
+        // The path's STAT is a condition by itself.
+        let of = if LEVELS.contains(&layer) { &conditions[..] } else { &conditions[..6] };
+        self.choice("a condition of a layer", of)?(self, layer)
     }
 }

@@ -1,11 +1,12 @@
 //! Timeline: a listing (S, R and E lines), or an explanation (F lines among them), to one SVG page, seconds from left to right.
 //!
 //! From the top: a band of the worst head, a lane for each of the nine failed heads, then failed frames and the near and far blocks of
-//! section and path as bars, with defect seconds as a strip under them. Where there are more seconds than columns of pixels, several
+//! section and path, and of each provisioned tandem level, as bars, with defect seconds as a strip under them. Where there are more seconds than columns of pixels, several
 //! share a column, and the worst of them is shown, so that no failed second disappears; the shade tells how many of them fail. What an
 //! explanation tells of fault causes is told with the figures of a column.
 
 use crate::program::{cut, decimal, printable, quoted};
+use std::collections::BTreeSet;
 use std::fmt::Write;
 use std::ops::RangeInclusive;
 
@@ -24,8 +25,8 @@ const ROWS: usize = LANES + 9 * LANE + 18;
 const ROW: usize = 86;
 const BAR: usize = 56;
 const STRIP: usize = 8;
-const AXIS: usize = ROWS + 5 * ROW;
-const NOTES: usize = AXIS + 56;
+/// Where the notes begin, under the axis.
+const NOTES: usize = 56;
 
 const HEADS: [&str; 10] = [
     "clear",
@@ -64,13 +65,14 @@ const EDGE: usize = 3;
 /// The most lines of fault causes among the figures of a column.
 const CAUSES: usize = 6;
 
-const BARS: [&str; 5] = ["failed frames", "section near blocks", "section far blocks", "path near blocks", "path far blocks"];
-
-/// Where the numbers of an S line stand.
+/// Where the numbers of an S line stand: the heads; then groups of four, the section's, the path's, and those of the provisioned levels.
 const HEAD: usize = 2;
-const NEAR: [usize; 2] = [12, 16];
+const GROUPS: usize = 12;
 
-const REFUSALS: [&str; 17] = [
+/// Section and path have a group in every S line.
+const ALWAYS: usize = 2;
+
+const REFUSALS: [&str; 19] = [
     "overhead not 64 bytes",
     "flags above 3",
     "a violation count above 8",
@@ -86,11 +88,14 @@ const REFUSALS: [&str; 17] = [
     "no accepted trace",
     "trace record cut",
     "kind unknown, or length wrong for it",
-    "first record not a provisioning, or a later one is",
+    "first record not a provisioning, or a later one is, or a level is provisioned after a frame or a mark",
     "handed-in supervisor not in order",
+    "level not 1 to 6, or given twice",
+    "frames with and without the levels' counts",
 ];
 
-type Second = [u64; 20];
+/// The numbers of an S line, zeros where it has no more groups.
+type Second = [u64; 44];
 
 /// The fault causes that begin or end in a frame, as the F line has them. The frame is counted from the beginning of its second.
 #[derive(Debug)]
@@ -103,6 +108,10 @@ struct Causes {
 #[derive(Debug, Default)]
 pub struct Listing {
     seconds: Vec<Second>,
+    /// The groups of an S line: two, and one for each provisioned level.
+    groups: usize,
+    /// The levels that F lines name: of no other is anything told.
+    levels: BTreeSet<u8>,
     /// Number and byte offset.
     refusal: Option<(u64, u64)>,
     frames: u64,
@@ -114,7 +123,7 @@ pub struct Listing {
 
 /// The listing in a text, or the number of the line that cannot be read and what was expected.
 pub fn read(text: &str) -> Result<Listing, String> {
-    let mut listing = Listing::default();
+    let mut listing = Listing { groups: ALWAYS, ..Listing::default() };
     let mut ended = false;
     for (i, line) in text.lines().enumerate() {
         listing.line(line, &mut ended).map_err(|mistake| format!("line {}: {mistake}", i + 1))?;
@@ -127,10 +136,15 @@ pub fn read(text: &str) -> Result<Listing, String> {
 
 /// The numbers after the letter of a line, so many.
 fn numbers<const N: usize>(words: &[&str]) -> Result<[u64; N], String> {
-    let mut all = [0; N];
-    if words.len() != N {
-        return Err(format!("{}; expected {N}", plural(words.len() as u64, "number")));
+    match words.len() == N {
+        true => read_numbers(words),
+        false => Err(format!("{}; expected {N}", plural(words.len() as u64, "number"))),
     }
+}
+
+/// The numbers of words, and zeros after them.
+fn read_numbers<const N: usize>(words: &[&str]) -> Result<[u64; N], String> {
+    let mut all = [0; N];
     for (number, word) in all.iter_mut().zip(words) {
         *number = decimal(word).ok_or_else(|| format!("{} is not a number; expected digits", quoted(word)))?;
     }
@@ -148,16 +162,26 @@ fn is_turn(word: &str) -> bool {
     !name.is_empty() && name.bytes().all(|b| b.is_ascii_alphanumeric() || b == b'.' || b == b'-')
 }
 
-/// A fault cause: of the line, or of a layer.
+/// A fault cause: of the line, of a layer, or of a level.
 fn is_cause(word: &str) -> bool {
-    let name = &word[1..];
-    name.strip_prefix("SM.").or(name.strip_prefix("PM.")).unwrap_or(name).starts_with('c')
+    word[1..].rsplit('.').next().is_some_and(|name| name.starts_with('c'))
+}
+
+/// The level that a word of an F line names: `+TCM3.dLTC`, or `TCM3.trace="...`.
+fn level_of(word: &str) -> Option<u8> {
+    let name = word.strip_prefix(['+', '-']).unwrap_or(word).strip_prefix("TCM")?;
+    name.split_once('.')?.0.parse().ok().filter(|level| (1..=6).contains(level))
+}
+
+/// Where a trace begins in an F line.
+fn is_trace(word: &str) -> bool {
+    word.split_once(".trace=\"").is_some_and(|(of, _)| of == "SM" || of == "PM" || level_of(word).is_some())
 }
 
 /// The names that begin or end, of an F line's changes. After them come the head and the traces, whose text is free.
 fn turns<'a>(changes: &'a [&'a str]) -> Result<&'a [&'a str], String> {
     let names = changes.iter().take_while(|word| is_turn(word)).count();
-    let free = |word: &str| ["head=", "SM.trace=\"", "PM.trace=\""].iter().any(|begin| word.starts_with(begin));
+    let free = |word: &str| word.starts_with("head=") || is_trace(word);
     match changes.get(names) {
         None if names > 0 => Ok(changes),
         Some(word) if free(word) => Ok(&changes[..names]),
@@ -174,7 +198,10 @@ impl Listing {
             _ => "S, F, R or E",
         };
         match (words[0], *ended, self.refusal) {
-            ("S", false, None) => self.second(numbers(&words[1..])?),
+            ("S", false, None) => {
+                self.count_groups(words.len() - 1)?;
+                self.second(read_numbers(&words[1..])?)
+            }
             ("F", false, None) => self.change(&words[1..]),
             ("R", false, None) => self.refuse(numbers(&words[1..])?),
             ("E", false, _) => {
@@ -187,7 +214,47 @@ impl Listing {
 
     fn refuse(&mut self, [number, offset]: [u64; 2]) -> Result<(), String> {
         self.refusal = Some((number, offset));
-        (1..=17).contains(&number).then_some(()).ok_or(format!("refusal {number}; expected 1 to 17"))
+        (1..=19).contains(&number).then_some(()).ok_or(format!("refusal {number}; expected 1 to 19"))
+    }
+
+    /// An S line has 20 numbers and four for each provisioned level, and all S lines have as many.
+    fn count_groups(&mut self, numbers: usize) -> Result<(), String> {
+        let first = self.seconds.is_empty();
+        let good = if first { (20..=44).contains(&numbers) && numbers % 4 == 0 } else { numbers == GROUPS + 4 * self.groups };
+        let expected = match first {
+            true => "20, and 4 more for each tandem level".to_string(),
+            false => format!("{}, as in the line before", GROUPS + 4 * self.groups),
+        };
+        if !good {
+            return Err(format!("{}; expected {expected}", plural(numbers as u64, "number")));
+        }
+        self.groups = (numbers - GROUPS) / 4;
+        Ok(())
+    }
+
+    /// Whose group it is. A line S names no level: its number is known where the F lines name as many levels as there are groups.
+    fn group(&self, group: usize) -> String {
+        match group {
+            0 => "section".into(),
+            1 => "path".into(),
+            _ => match self.levels.iter().nth(group - ALWAYS).filter(|_| self.levels.len() == self.groups - ALWAYS) {
+                Some(level) => format!("TCM{level}"),
+                None => format!("level {} of {}", group + 1 - ALWAYS, self.groups - ALWAYS),
+            },
+        }
+    }
+
+    /// How many rows of bars there are: failed frames, and near and far blocks of each group.
+    fn rows(&self) -> usize {
+        1 + 2 * self.groups
+    }
+
+    /// What stands beside a row.
+    fn row(&self, row: usize) -> String {
+        match row {
+            0 => "failed frames".into(),
+            _ => format!("{} {} blocks", self.group((row - 1) / 2), ["near", "far"][(row - 1) % 2]),
+        }
     }
 
     fn end(&mut self, [marks, frames]: [u64; 2]) -> Result<(), String> {
@@ -227,7 +294,9 @@ impl Listing {
         let [second, frame, total] = numbers(place)?;
         self.is_open(second)?;
         self.frame(frame, total)?;
-        let words = turns(changes)?.iter().copied().filter(|word| is_cause(word)).collect::<Vec<_>>().join(" ");
+        let turned = turns(changes)?;
+        self.levels.extend(turned.iter().filter_map(|word| level_of(word)));
+        let words = turned.iter().copied().filter(|word| is_cause(word)).collect::<Vec<_>>().join(" ");
         if !words.is_empty() {
             self.causes.push(Causes { second, frame, words });
         }
@@ -243,7 +312,7 @@ impl Listing {
         if filed != s[1] {
             return Err(format!("{} under the ten heads; expected {}, the second's", plural(filed, "frame"), s[1]));
         }
-        for near in NEAR {
+        for near in (0..self.groups).map(|group| GROUPS + 4 * group) {
             if s[near].max(s[near + 1]) > s[1] {
                 let blocks = plural(s[near].max(s[near + 1]), "block");
                 return Err(format!("{blocks}; expected at most {}, the second's frames", s[1]));
@@ -288,7 +357,7 @@ fn bar(row: usize, s: &Second) -> (u64, bool) {
     match row {
         0 => (failed(s), false),
         _ => {
-            let at = NEAR[(row - 1) / 2] + (row - 1) % 2;
+            let at = GROUPS + 4 * ((row - 1) / 2) + (row - 1) % 2;
             (s[at], s[at + 2] == 1)
         }
     }
@@ -328,7 +397,7 @@ impl Column<'_> {
     }
 
     /// What a pointer that rests on the column is told.
-    fn words(&self, causes: &[Causes]) -> String {
+    fn words(&self, listing: &Listing) -> String {
         let mut text = match self.0.len() {
             1 => format!("second {}", commas(self.first())),
             _ => format!("seconds {} to {}", commas(self.first()), commas(self.last())),
@@ -341,12 +410,13 @@ impl Column<'_> {
                 let _ = write!(text, "\n{head} {words}: {}{share}", plural(frames, "frame"));
             }
         }
-        for (row, words) in BARS.iter().enumerate().skip(1) {
+        for row in 1..listing.rows() {
+            let words = listing.row(row);
             let share = self.share(" in ", |s| bar(row, s).1, " seconds");
             let ds = if self.with(|s| bar(row, s).1) > 0 { format!(", DS{share}") } else { String::new() };
             let _ = write!(text, "\n{words}: {}{ds}", commas(self.0.iter().map(|s| bar(row, s).0).sum()));
         }
-        self.tell(causes, &mut text);
+        self.tell(listing.causes(self.first(), self.last()), &mut text);
         text
     }
 
@@ -448,15 +518,15 @@ pub fn page(name: &str, listing: &Listing, range: Option<RangeInclusive<u64>>) -
     let share = seconds.len().div_ceil(PLOT).max(1);
     let columns: Vec<Column> = seconds.chunks(share).map(Column).collect();
     let wide = (PLOT / columns.len().max(1)).min(WIDEST);
-    let highest = seconds.iter().flat_map(|s| (0..BARS.len()).map(|row| bar(row, s).0)).max().unwrap_or(0);
+    let highest = seconds.iter().flat_map(|s| (0..listing.rows()).map(|row| bar(row, s).0)).max().unwrap_or(0);
     let decades = (1..).find(|power| 10u64.pow(*power) >= highest).unwrap_or(1);
     let mut page = Page { svg: String::new(), listing, seconds, columns, share, wide, decades };
     let notes = page.notes();
-    page.begin(NOTES + 17 * notes.len());
+    page.begin(page.axis_at() + NOTES + 17 * notes.len());
     page.title(name);
     page.axis();
     page.heads();
-    for row in 0..BARS.len() {
+    for row in 0..listing.rows() {
         page.bars(row);
     }
     page.end_of_record();
@@ -472,6 +542,11 @@ impl Page<'_> {
 
     fn text(&mut self, x: usize, y: usize, class: &str, text: &str) {
         let _ = writeln!(self.svg, r#"<text class="{class}" x="{x}" y="{y}">{text}</text>"#);
+    }
+
+    /// Where the axis is, under the bars.
+    fn axis_at(&self) -> usize {
+        ROWS + self.listing.rows() * ROW
     }
 
     /// Where the columns end.
@@ -590,9 +665,10 @@ impl Page<'_> {
 
     /// Seconds along the bottom, and lines up from them.
     fn axis(&mut self) {
-        self.rect(LEFT, AXIS, PLOT, 1, "line");
-        self.text(16, AXIS + 18, "name", "second");
-        self.text(16, AXIS + 33, "small", "time at its end, h:mm:ss");
+        let axis = self.axis_at();
+        self.rect(LEFT, axis, PLOT, 1, "line");
+        self.text(16, axis + 18, "name", "second");
+        self.text(16, axis + 33, "small", "time at its end, h:mm:ss");
         let round = [1, 2, 5, 10, 15, 30, 60, 120, 300, 600, 900, 1_800, 3_600, 7_200, 14_400, 28_800, 43_200, 86_400];
         let fits = |step: &usize| step * self.wide / self.share >= 70;
         let step = round.into_iter().chain((1..).map(|days| 86_400 << days)).find(fits).unwrap_or(1);
@@ -604,9 +680,9 @@ impl Page<'_> {
                 continue;
             }
             free = x + 60;
-            self.rect(x, BAND, 1, AXIS + 5 - BAND, "grid");
-            self.text(x, AXIS + 18, "middle", &commas(second));
-            self.text(x, AXIS + 33, "small middle", &clock(second));
+            self.rect(x, BAND, 1, axis + 5 - BAND, "grid");
+            self.text(x, axis + 18, "middle", &commas(second));
+            self.text(x, axis + 33, "small middle", &clock(second));
         }
     }
 
@@ -645,7 +721,7 @@ impl Page<'_> {
             }
         }
         self.rect(LEFT, base, PLOT, 1, "line");
-        self.text(16, base - 32, "name", BARS[row]);
+        self.text(16, base - 32, "name", &self.listing.row(row));
         let sum: u64 = self.seconds.iter().map(|s| bar(row, s).0).sum();
         self.text(16, base - 16, "", &commas(sum));
         let gap = usize::from(self.wide > 4);
@@ -670,7 +746,7 @@ impl Page<'_> {
     fn end_of_record(&mut self) {
         if self.listing.refusal.is_some() && self.has_the_end() {
             let x = self.right();
-            self.rect(x, BAND - 8, 3, AXIS + 5 - (BAND - 8), "end");
+            self.rect(x, BAND - 8, 3, self.axis_at() + 5 - (BAND - 8), "end");
             let (x, class) = if x > LEFT + PLOT / 2 { (x + 3, "told right") } else { (x, "told") };
             self.text(x, BAND - 12, class, "the record ends here");
         }
@@ -678,8 +754,8 @@ impl Page<'_> {
 
     fn pointers(&mut self) {
         for (i, column) in self.columns.iter().enumerate() {
-            let (x, h, w) = (LEFT + i * self.wide, AXIS - BAND, self.wide);
-            let words = column.words(self.listing.causes(column.first(), column.last()));
+            let (x, h, w) = (LEFT + i * self.wide, ROWS + self.listing.rows() * ROW - BAND, self.wide);
+            let words = column.words(self.listing);
             let _ = writeln!(
                 self.svg,
                 r#"<rect class="pointer" x="{x}" y="{BAND}" width="{w}" height="{h}"><title>{words}</title></rect>"#
@@ -689,9 +765,10 @@ impl Page<'_> {
 
     /// The notes under the picture: the first with the colour of clear before it, that of the shades with the four.
     fn legend(&mut self, notes: &[(&str, String)]) {
-        self.rect(16, NOTES - 10, 12, 12, "h0");
+        let first = self.axis_at() + NOTES;
+        self.rect(16, first - 10, 12, 12, "h0");
         for (i, (class, note)) in notes.iter().enumerate() {
-            let y = NOTES + 17 * i;
+            let y = first + 17 * i;
             self.text(34, y, class, note);
             if note == SHADE {
                 self.steps(y - 10);
@@ -718,6 +795,9 @@ impl Page<'_> {
         let mut notes: Vec<(&str, String)> = always.map(|note| ("", note.to_string())).into();
         if self.share > 1 {
             notes.push(("", SHADE.into()));
+        }
+        if self.listing.levels.len() + ALWAYS < self.listing.groups {
+            notes.push(("", "Tandem levels: in the order of their numbers, the lowest first. A listing does not tell the numbers; an explanation may.".into()));
         }
         if self.listing.told > 0 {
             notes.push(("", "With the figures of a column: the frames in which a fault cause begins (+) or ends (-).".into()));

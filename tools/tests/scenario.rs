@@ -73,7 +73,7 @@ fn examples_have_their_listings() {
             met += 1;
         }
     }
-    assert_eq!(met, 7);
+    assert_eq!(met, 8);
 }
 
 #[test]
@@ -172,6 +172,74 @@ fn flags_and_counts() {
     assert_eq!(with(text), [[1, 0, 0], [3, 8, 1], [2, 8, 1], [0, 0, 0]]);
 }
 
+/// The bodies of the levels' records, and of each frame its kind and the six counts.
+fn with_levels(text: &str) -> (Vec<Vec<u8>>, Vec<(u16, [u8; 6])>) {
+    let bytes = trace(text);
+    let (mut levels, mut frames, mut at) = (Vec::new(), Vec::new(), 0);
+    while at < bytes.len() {
+        let (next, taken) = record(&bytes[at..]).unwrap();
+        at += taken;
+        match next {
+            Record::Frame { kind, counts, .. } => frames.push((kind, counts)),
+            Record::Level(body) => levels.push(body.to_vec()),
+            Record::Mark | Record::Provisioning(_) => {}
+        }
+    }
+    (levels, frames)
+}
+
+#[test]
+fn levels() {
+    let text = "good 2\ntcm 6 dapi \"B\" degthr 300 degm 10\ntcm 2 sapi \"A\" mode off act default\ntcm 6 mode sapi act off\n\
+                from 2 for 1 tcm2 violations 8 tcm5 violations 1";
+    let (levels, frames) = with_levels(text);
+    // Lowest level first, whatever the order of the lines: level, DEGThr, DEGM, mode, TIMActDis, names.
+    assert_eq!(levels.len(), 2);
+    assert_eq!(levels[0][..11], [2, 1, 0, 0, 0, 2, 0, 2, 0, b'A', 0]);
+    assert_eq!(levels[1][..11], [6, 44, 1, 0, 0, 10, 1, 1, 0, 0, 0]);
+    assert_eq!((levels[1][8 + 17], levels[1].len()), (b'B', 40));
+    assert_eq!(frames, [(5, [0; 6]), (5, [0, 8, 0, 0, 1, 0])]);
+    // Without a level frames are of kind 1; a line that names one is enough for kind 5.
+    assert_eq!(with_levels("good 1"), (vec![], vec![(1, [0; 6])]));
+    assert_eq!(with_levels("good 1\nfrom 1 for 1 tcm4 bdi"), (vec![], vec![(5, [0; 6])]));
+}
+
+/// A level's bytes: TTI and status, by row and column. The status of a level that is provisioned is good, of another it is 0.
+#[test]
+fn bytes_of_levels() {
+    let places = [(3, 7), (3, 4), (3, 1), (2, 11), (2, 8), (2, 5)];
+    for (level, (row, first)) in (1..=6).zip(places) {
+        let text = format!(
+            "good 20\ntcm {level} sapi \"A\"\nfrom 2 for 1 tcm{level} stat ltc\nfrom 3 for 1 tcm{level} bei 11 tcm{level} bdi tcm{level} stat iae\n\
+             from 18 for 1 tcm{level} dapi \"C\"\nsend tcm{level} operator \"D\""
+        );
+        let parts = parts_of(&text);
+        for (number, (other_row, other)) in (1..=6).zip(places) {
+            let status: Vec<u8> = parts.iter().map(|o| o[16 * (other_row - 1) + other + 1]).collect();
+            let tti: Vec<u8> = parts.iter().map(|o| o[16 * (other_row - 1) + other - 1]).collect();
+            let (want, sent): (&[u8], &[u8]) =
+                if number == level { (&[1, 0, 0xBA, 1], &[0, b'A', b'C']) } else { (&[0; 4], &[0; 3]) };
+            assert_eq!(&status[..4], want, "level {level}, bytes of {number}");
+            assert_eq!([tti[0], tti[1], tti[17]], sent, "level {level}, bytes of {number}");
+        }
+        assert_eq!((row, first), places[level - 1]);
+    }
+}
+
+/// The overhead of each frame.
+fn parts_of(text: &str) -> Vec<[u8; 64]> {
+    let bytes = trace(text);
+    let (mut frames, mut at) = (Vec::new(), 0);
+    while at < bytes.len() {
+        let (next, taken) = record(&bytes[at..]).unwrap();
+        at += taken;
+        if let Record::Frame { overhead, .. } = next {
+            frames.push(overhead.try_into().unwrap());
+        }
+    }
+    frames
+}
+
 #[test]
 fn the_later_line_wins() {
     let text = "good 3\nfrom 1 for 3 path violations 8\nfrom 2 for 1 path violations 0";
@@ -195,8 +263,8 @@ fn repeated_within_a_span() {
 #[test]
 fn mistakes_tell_the_line_and_what_was_expected() {
     let told = [
-        ("fram 3", "\"fram\" is not a directive; expected k, section, path, send, good, from or mark"),
-        ("\"good\" 3", "\"good\" is not a directive; expected k, section, path, send, good, from or mark"),
+        ("fram 3", "\"fram\" is not a directive; expected k, section, path, tcm, send, good, from or mark"),
+        ("\"good\" 3", "\"good\" is not a directive; expected k, section, path, tcm, send, good, from or mark"),
         ("k 4", "\"4\" is not k; expected a number from 1 to 3"),
         ("k", "the line ends; expected a number from 1 to 3"),
         ("k 1 2", "\"2\" is too much; expected the end of the line"),
@@ -215,7 +283,13 @@ fn mistakes_tell_the_line_and_what_was_expected() {
             "path sapi \"1234567890123456\"",
             "\"1234567890123456\" is not a name for sapi; expected a name in quotes, of at most 15 ASCII characters",
         ),
-        ("send line", "\"line\" is not a layer; expected section or path"),
+        ("tcm sapi \"A\"", "\"sapi\" is not a level; expected a number from 1 to 6"),
+        ("tcm 7 sapi \"A\"", "\"7\" is not a level; expected a number from 1 to 6"),
+        ("tcm 3", "the line ends; expected sapi, dapi, mode, act, degthr or degm"),
+        ("tcm 3 degthr 20421", "degthr 20421 is too high for k 1; expected a number from 1 to 20420"),
+        ("from 1 for 3 tcm3 stat 111", "\"111\" is not a STAT; expected a number from 0 to 7, or ais, oci, lck, iae or ltc; numbers are decimal, and 111 in binary is 7"),
+        ("from 1 for 3 section stat 0", "\"stat\" is not a condition of a layer; expected bdi, bei, violations, sapi, dapi or operator"),
+        ("send line", "\"line\" is not a layer; expected section, path, tcm1, tcm2, tcm3, tcm4, tcm5 or tcm6"),
         ("send path mode", "\"mode\" is not a field of the trace; expected sapi, dapi or operator"),
         ("send path operator 7", "\"7\" is not a name for operator; expected a name in quotes, of at most 32 ASCII characters"),
         ("good 0", "\"0\" is not a number of frames; expected a number from 1 to 4294967295"),
@@ -227,8 +301,8 @@ fn mistakes_tell_the_line_and_what_was_expected() {
         ("from 0", "\"0\" is not a frame; expected a number from 1 to 4294967295"),
         ("from 1 to 3", "\"to\" is not a span; expected for"),
         ("from 1 for x", "\"x\" is not a number of frames; expected a number from 1 to 4294967295"),
-        ("from 1 for 3", "the line ends; expected fas, mfas, stat, iae, flag, section or path"),
-        ("from 1 for 3 fsa lost", "\"fsa\" is not a condition; expected fas, mfas, stat, iae, flag, section or path"),
+        ("from 1 for 3", "the line ends; expected fas, mfas, stat, iae, flag, section, path, tcm1, tcm2, tcm3, tcm4, tcm5 or tcm6"),
+        ("from 1 for 3 fsa lost", "\"fsa\" is not a condition; expected fas, mfas, stat, iae, flag, section, path, tcm1, tcm2, tcm3, tcm4, tcm5 or tcm6"),
         ("from 1 for 3 every 4 fas lost", "\"fas\" is not a span; expected for"),
         ("from 1 for 3 every 4 for 5 fas lost", "\"5\" is not a number of frames within that; expected a number from 1 to 4"),
         ("from 1 for 3 fas gone", "\"gone\" is not a word after fas; expected lost or wrong"),
@@ -263,7 +337,7 @@ fn mistakes_tell_the_line_and_what_was_expected() {
         ("from 1 for 3 path bei \"1011\"", "\"1011\" is not a BEI; expected a number from 0 to 15"),
         ("from 1 for 3 path bei", "the line ends; expected a number from 0 to 15"),
         ("from 1 for 3 path violations 9", "\"9\" is not a violation count; expected a number from 0 to 8"),
-        ("from 1 for 3 iae 1", "\"1\" is not a condition; expected fas, mfas, stat, iae, flag, section or path"),
+        ("from 1 for 3 iae 1", "\"1\" is not a condition; expected fas, mfas, stat, iae, flag, section, path, tcm1, tcm2, tcm3, tcm4, tcm5 or tcm6"),
         ("from 9 for 3 iae", "frame 11 is past the end; expected at most 10, the good frames of all lines"),
         ("mark", "the line ends; expected a number from 0 to 4294967295, or every"),
         ("mark all", "\"all\" is not a frame; expected a number from 0 to 4294967295, or every"),
@@ -295,7 +369,7 @@ fn a_scenario_of_nothing_is_a_mistake() {
 #[test]
 fn junk_is_cut_and_printable() {
     let first = |line: &[u8]| mistake(&String::from_utf8_lossy(line)).replace("line 1: ", "");
-    let expected = "is not a directive; expected k, section, path, send, good, from or mark";
+    let expected = "is not a directive; expected k, section, path, tcm, send, good, from or mark";
     assert_eq!(first(b"\x00a\x01\xff\x1b[0m\x7f"), format!("\".a...[0m.\" {expected}"));
     assert_eq!(first(&[b'x'; 60]), format!("\"{}\" {expected}", "x".repeat(60)));
     assert_eq!(first(&[b'x'; 61]), format!("\"{}\"... {expected}", "x".repeat(60)));
@@ -340,7 +414,7 @@ fn the_program_names_the_text_of_a_mistake() {
     assert_eq!(refused(&[], b"good\n"), (told.into(), Some(1)));
     let told = "standard input: line 1: the scenario ends with no frame and no mark; expected good or mark\n";
     assert_eq!(refused(&[], b""), (told.into(), Some(1)));
-    let told = "is not a directive; expected k, section, path, send, good, from or mark\n";
+    let told = "is not a directive; expected k, section, path, tcm, send, good, from or mark\n";
     assert_eq!(refused(&[], b"good 9\n\xfe\x02\n"), (format!("standard input: line 2: \"..\" {told}"), Some(1)));
     let file = concat!(env!("CARGO_MANIFEST_DIR"), "/../examples/scenarios/overlap.listing");
     assert_eq!(refused(&[file], b""), (format!("{file}: line 1: \"S\" {told}"), Some(1)));

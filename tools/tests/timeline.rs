@@ -312,7 +312,7 @@ fn mistakes_tell_the_line_and_what_was_expected() {
         ("X 1", "\"X\" begins the line; expected S, F, R or E"),
         ("\n", "\"\" begins the line; expected S, F, R or E"),
         ("\u{1}\u{fffd}q", "\"..q\" begins the line; expected S, F, R or E"),
-        ("S 2 0 0", "3 numbers; expected 20"),
+        ("S 2 0 0", "3 numbers; expected 20, as in the line before"),
         ("S 3 0 0 0 0 0 0 0 0 0 0 0 0 0 0 0 0 0 0 0", "second 3; expected 2"),
         ("S 2 x 0 0 0 0 0 0 0 0 0 0 0 0 0 0 0 0 0 0", "\"x\" is not a number; expected digits"),
         ("S 2  0 0 0 0 0 0 0 0 0 0 0 0 0 0 0 0 0 0", "\"\" is not a number; expected digits"),
@@ -328,7 +328,7 @@ fn mistakes_tell_the_line_and_what_was_expected() {
         ("F 2 3 5", "\"\" is not a change; expected +NAME, -NAME, head= or a trace"),
         ("F 2 3 5 +<b>", "\"+<b>\" is not a change; expected +NAME, -NAME, head= or a trace"),
         ("F 2 3 5 +IF IM", "\"IM\" is not a change; expected +NAME, -NAME, head= or a trace"),
-        ("R 18 5", "refusal 18; expected 1 to 17"),
+        ("R 20 5", "refusal 20; expected 1 to 19"),
         ("R 14", "1 number; expected 2"),
         ("E 2 2", "2 marks; expected 1, the S lines"),
         ("E 1 1", "1 frame; expected at least 2, those of the S lines"),
@@ -374,6 +374,42 @@ fn explanation(seconds: usize, changes: &str) -> String {
         text += &format!("F {number} 5 {} {changes}\n{}", 9 * (number - 1) + 5, second(number, 9, (0, 0), [0; 8]));
     }
     format!("{text}E {seconds} {}\n", 9 * seconds)
+}
+
+/// Two seconds with the groups of two levels, and an F line of the changes in the first.
+fn levels(changes: &str) -> String {
+    let told = if changes.is_empty() { String::new() } else { format!("F 1 5 5 {changes}\n") };
+    let zeros = "0 0 0 0 0 0 0 0 0 0 0 0 0 0 0 0 0";
+    format!("{told}S 1 9 9 {zeros} 3 2 1 0 0 0 0 1\nS 2 9 9 {zeros} 0 0 0 0 1 1 0 0\nE 2 18\n")
+}
+
+#[test]
+fn each_provisioned_level_has_its_group() {
+    let figures_of = |listing: &str| figures(&drawn(listing), "second 1\n")[6..].join("; ");
+    let plain = "level 1 of 2 near blocks: 3, DS; level 1 of 2 far blocks: 2; \
+                 level 2 of 2 near blocks: 0; level 2 of 2 far blocks: 0, DS";
+    assert_eq!(figures_of(&levels("")), plain);
+    // A listing does not number the levels; an explanation that names both does, one that names one does not.
+    assert_eq!(figures_of(&levels("+TCM3.SSF")), plain);
+    let named = plain.replace("level 1 of 2", "TCM2").replace("level 2 of 2", "TCM6");
+    assert_eq!(figures_of(&levels("+TCM6.SSF -TCM2.trace")), named);
+    assert_eq!(figures_of(&levels("+TCM2.cLTC +TCM6.dDEG TCM2.trace=\"x\"")), format!("{named}; frame 5: +TCM2.cLTC"));
+    // Two rows of bars more for each level, and what is under them moves down.
+    let (none, two) = (drawn(&listing(2, &[])), drawn(&levels("")));
+    let high = |svg: &str| svg.split("height=\"").nth(1).unwrap().split('"').next().unwrap().parse::<usize>().unwrap();
+    assert_eq!(high(&two), high(&none) + 4 * 86 + 17);
+    assert!(two.contains("Tandem levels: in the order of their numbers") && !none.contains("Tandem levels"));
+    let mistake = |text: &str| read(text).unwrap_err();
+    assert_eq!(mistake("S 1 0 0"), "line 1: 3 numbers; expected 20, and 4 more for each tandem level");
+    assert_eq!(
+        mistake(&levels("").replace("S 2 9 9 0 0 0 0", "S 2 9 9")),
+        "line 2: 24 numbers; expected 28, as in the line before"
+    );
+    assert_eq!(mistake(&levels("").replace(" 3 2 1 0", " 3 2 2 0")), "line 1: 2 for a defect second; expected 0 or 1");
+    assert_eq!(
+        mistake(&levels("+TCM3.trace=x")),
+        "line 1: \"+TCM3.trace=x\" is not a change; expected +NAME, -NAME, head= or a trace"
+    );
 }
 
 #[test]

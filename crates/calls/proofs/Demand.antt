@@ -1,13 +1,13 @@
 -- Demand 3 on bytes. Assumes nothing.
 use mathlib.Core.Path.{_≡_, refl, sym, ap, _∙_, subst}
 use mathlib.Core.Bool.{Bool, true, false, not, _&&_, _||_}
-use mathlib.Core.List.{List, [], _∷_}
-use Prim.Native.Nat.{ℕ, zero, suc, _+_, _≤_, _<_}
+use mathlib.Core.List.{List, [], _∷_, _++_}
+use Prim.Native.Nat.{ℕ, zero, suc, _+_, _-_, _*_, _≤_, _<_}
 use native.Mathlib.Nat.{not-suc-le-zero, le-of-suc-le-suc}
 use native.Mathlib.Omega.{arith}
 use lib.Dec.{lit<, eqb}
-use lib.ListN.{length, getD, drop}
-use lib.Seq.{getD-drop}
+use lib.ListN.{length, getD, drop, length-append, List·getD-append}
+use lib.Seq.{getD-drop, getD-take}
 use Rattle.answer.specs.Bits.{flag}
 use Rattle.answer.proofs.Bits.{flag-most}
 use Rattle.answer.proofs.Cond.{by-cond}
@@ -26,22 +26,32 @@ use Rattle.second.specs.declared.Second.{Second}
 use Rattle.second.specs.declared.Near.{Near}
 use Rattle.second.specs.declared.Far.{Far}
 use Rattle.settings.specs.declared.Settings.{Settings}
-use Rattle.supervisor.specs.Supervisor.{freshOf, standsAfter, frameOf, nextSecond}
+use Rattle.supervisor.specs.Supervisor.{freshOf, standsAfter, frameOf, nextSecond, markOf}
 use Rattle.supervisor.specs.declared.Supervisor.{Supervisor}
-use Rattle.history.specs.History.{Frame, Event, frame, mark, standsAt, framed, eventOf, after, refusalOf, does}
+use Rattle.history.specs.History.{Frame, Event, frame, mark, standsAt, framed, eventOf, after, reached, refusalOf}
 use Rattle.history.specs.Ranges.{AllAtMost, SecondIn, Ranged}
 use Rattle.history.specs.Ledger.{sumOf, Says, Demand3}
 use Rattle.history.proofs.History.{seconds-left}
 use Rattle.history.proofs.Ledger.{mark-figures, demand-3}
 use Rattle.history.proofs.Ranges.{most-at}
+use Rattle.tandem.specs.Levels.{fourOf, levelFigures, levelAt}
+use Rattle.tandem.specs.Tandem.{freshTandem, markedOf}
+use Rattle.tandem.specs.declared.Level.{Level}
+use Rattle.tandem.specs.declared.Tandem.{Tandem}
+use Rattle.watch.specs.Watch.{refusalAt, groupAt}
+use Rattle.watch.proofs.Silent.{mark-refusal}
+use Rattle.watch.proofs.Alone.{plain-accepts, own-figures}
+use Rattle.watch.proofs.Calls.{plain-of}
+use Rattle.bays.specs.Ranges.{TandemIn}
 use Rattle.word.specs.Report.{reportWord}
 use Rattle.word.specs.Table.{reportTable, bitsOf, ReportBack}
 use Rattle.word.proofs.Fields.{row-read}
+use borrow.Author.Tests.{lt-ltb}
 use Rattle.card.specs.Calls.{figuresAt, freshSup}
-use Rattle.calls.specs.History.{calls, actRefusal, actAnswer, actFills, bytesAfter, refusedOn, answerOn, fillOn, Course, supervisorAt, courseOf, FromFresh}
-use Rattle.calls.specs.Words.{EveryRecordBack}
+use Rattle.calls.specs.History.{otn-step, otn-mark, actRefusal, actAnswer, actFills, bytesAfter, refusedOn, answerOn, fillOn, Course, eventsAt, tandemAt, courseOf, FromFresh}
+use Rattle.calls.specs.Words.{EveryRecordBack, EveryLevelWords}
 use Rattle.calls.specs.Demand.{sectionTimBit, pathTimBit, ReportedCause, figureIn, RecordedSecond, lineAt, EveryByteDemand3}
-use Rattle.calls.proofs.Histories.{report-of, kept-from, from-fresh}
+use Rattle.calls.proofs.Histories.{report-is, report-of, kept-from, from-fresh}
 
 -- one bit that holds a Bool
 bit-is : (n : ℕ) (x : Bool) → n ≡ flag x → eqb n 1 ≡ x
@@ -90,14 +100,18 @@ settings-after s [] = refl
 settings-after s (frame f ∷ h) = settings-after (framed s f) h
 settings-after s (mark ∷ h) = settings-after (nextSecond s) h
 
-reported-at : (c : Course) (f : Frame) → refusalOf (supervisorAt c) (frame f) ≡ 0
-    → ReportedCause (c .settings) (reportWord (reportOf (standsAt (supervisorAt c) f) (f .sm) (f .pm)))
+-- line, section and path after a course
+pub base-at : (b : List ℕ) (c : Course) → FromFresh b c → tandemAt c .base ≡ reached (c .settings) (eventsAt c)
+base-at b c on = plain-of (freshTandem (freshOf (c .settings))) (c .calls) (on .taken) .base
+
+reported-at : (b : List ℕ) (c : Course) → FromFresh b c → (f : Frame) → refusalOf (tandemAt c .base) (frame f) ≡ 0
+    → ReportedCause (c .settings) (reportWord (reportOf (standsAt (tandemAt c .base) f) (f .sm) (f .pm)))
 unfolding standsAfter standingOf sectionStands pathStands
-reported-at c f z =
-    let same = settings-after (freshOf (c .settings)) (c .events) in
-    reported (c .settings) (standsAt (supervisorAt c) f) (f .sm) (f .pm)
+reported-at b c on f z =
+    let same = ap (λ (s : Supervisor). s .settings) (base-at b c on) ∙ settings-after (freshOf (c .settings)) (eventsAt c) in
+    reported (c .settings) (standsAt (tandemAt c .base) f) (f .sm) (f .pm)
     (ap (λ (p : Settings). p .section .disabled) same) (ap (λ (p : Settings). p .path .disabled) same)
-    (report-of (supervisorAt c) f z)
+    (report-of (tandemAt c .base) f z)
 
 -- every figure of a second that a mark may close fits its word
 figures-fit : (s : Supervisor) → Ranged s → s .seconds < 4294967295 → AllAtMost 4294967295 (figuresAt s)
@@ -174,51 +188,83 @@ recorded-by n s fs c r y w =
       far-most = omega (arith, y .far-most, zero-is, nine-is, w 2 (lit< tt), w 11 (lit< tt), w 17 (lit< tt));
     }
 
+-- the figures of an accepted mark: the twenty, and four for each level
+four-long : (l : Level) → length (fourOf l) ≡ 4
+unfolding fourOf
+four-long l = by-cond (λ (x : List ℕ). length x ≡ 4) (l .given) (λ _. refl) (λ _. refl)
+
+levels-long : (ls : List Level) → length (levelFigures ls) ≡ 4 * length ls
+unfolding levelFigures
+levels-long [] = refl
+levels-long (l ∷ ls) = length-append (fourOf l) (levelFigures ls) ∙ omega (arith, four-long l, levels-long ls)
+
+pub marked-figures : (t : Tandem) → markedOf t .refusal ≡ 0 → markedOf t .figures ≡ figuresAt (t .base) ++ levelFigures (t .levels)
+unfolding markedOf markOf
+marked-figures t e =
+    let low = lt-ltb (t .base .seconds) 4294967295 (seconds-left (t .base) (sym (mark-refusal t) ∙ e)) in
+    rw low
+
 -- a mark after a course, and a frame after it
 module _ (b : List ℕ) (c : Course) (on : FromFresh b c) where
+  abbrev t : Tandem
+  t = tandemAt c
+
   abbrev s : Supervisor
-  s = supervisorAt c
+  s = reached (c .settings) (eventsAt c)
 
-  module _ (out : List ℕ) (e : actRefusal b (calls (does mark) out) ≡ 0) where
-    taken : refusalOf s mark ≡ 0
+  module _ (out : List ℕ) (e : actRefusal b (otn-mark out) ≡ 0) where
+    taken : markedOf t .refusal ≡ 0
     unfolding refusedOn
-    taken = sym (on .refuses (calls (does mark) out)) ∙ e
+    taken = sym (on .refuses (otn-mark out)) ∙ e
 
-    filled : actFills b (calls (does mark) out) ≡ poured out (flat (figuresAt s))
+    taken-plain : refusalOf s mark ≡ 0
+    taken-plain = ap (λ (x : Supervisor). refusalOf x mark) (sym (base-at b c on)) ∙ sym (mark-refusal t) ∙ taken
+
+    abbrev all : List ℕ
+    all = figuresAt s ++ levelFigures (t .levels)
+
+    filled : actFills b (otn-mark out) ≡ poured out (flat all)
     unfolding fillOn
-    filled = on .fills (calls (does mark) out) ∙ rw taken
+    filled =
+        on .fills (otn-mark out)
+        ∙ rw taken (ap (λ (l : List ℕ). poured out (flat l))
+        (marked-figures t taken ∙ ap (λ (x : Supervisor). figuresAt x ++ levelFigures (t .levels)) (base-at b c on)))
 
-    word-filled : Ranged s → length out ≡ 80 → (i : ℕ) → i < 20 → figureIn (actFills b (calls (does mark) out)) i ≡ getD (figuresAt s) i 0
+    word-filled : TandemIn t → length out ≡ 176 → (i : ℕ) → i < 20 → figureIn (actFills b (otn-mark out)) i ≡ getD (figuresAt s) i 0
     word-filled r n i h =
-        let m : getD (figuresAt s) i 0 ≤ 4294967295 = most-at 4294967295 (figuresAt s) i (figures-fit s r (seconds-left s taken)) in
-        ap (λ (l : List ℕ). figureIn l i) (filled ∙ poured-all out (flat (figuresAt s)) (length-flat (figuresAt s) ∙ sym n))
-        ∙ word-in-flat (figuresAt s) i (omega arith) h
+        let plain : Ranged s = subst Ranged (base-at b c on) (r .base) in
+        let m : getD (figuresAt s) i 0 ≤ 4294967295 = most-at 4294967295 (figuresAt s) i (figures-fit s plain (seconds-left s taken-plain)) in
+        let first : getD all i 0 ≡ getD (figuresAt s) i 0 = List·getD-append (figuresAt s) (levelFigures (t .levels)) 0 i h in
+        let long : length all ≡ 44 = length-append (figuresAt s) (levelFigures (t .levels)) ∙ omega (arith, levels-long (t .levels), r .six) in
+        let fits : length (flat all) ≡ length out = omega (arith, length-flat all, long, n) in
+        ap (λ (l : List ℕ). figureIn l i) (filled ∙ poured-all out (flat all) fits)
+        ∙ word-in-flat all i (omega (arith, first, m)) (omega (arith, long, h))
+        ∙ first
 
-    module _ (d : Demand3 (c .settings) (c .events)) where
+    module _ (d : Demand3 (c .settings) (eventsAt c)) where
       figures-are : figuresAt s ≡ lineAt c (d .since)
-      figures-are = sym (mark-figures s taken) ∙ d .figures taken
+      figures-are = sym (mark-figures s taken-plain) ∙ d .figures taken-plain
 
-      line-filled : actFills b (calls (does mark) out) ≡ poured out (flat (lineAt c (d .since)))
-      line-filled = filled ∙ ap (λ (l : List ℕ). poured out (flat l)) figures-are
+      line-filled : actFills b (otn-mark out) ≡ poured out (flat (lineAt c (d .since) ++ levelFigures (t .levels)))
+      line-filled = filled ∙ ap (λ (l : List ℕ). poured out (flat (l ++ levelFigures (t .levels)))) figures-are
 
-      mark-records : Ranged s → length out ≡ 80 → RecordedSecond (lineAt c (d .since)) (actFills b (calls (does mark) out))
+      mark-records : TandemIn t → length out ≡ 176 → RecordedSecond (lineAt c (d .since)) (actFills b (otn-mark out))
       mark-records r n =
-          subst (λ (l : List ℕ). RecordedSecond l (actFills b (calls (does mark) out))) figures-are
-          (recorded-by _ _ _ _ (actFills b (calls (does mark) out)) (d .says) (word-filled r n))
+          subst (λ (l : List ℕ). RecordedSecond l (actFills b (otn-mark out))) figures-are
+          (recorded-by _ _ _ _ (actFills b (otn-mark out)) (d .says) (word-filled r n))
 
-  frame-reports : (f : Frame) (out : List ℕ) → actRefusal b (calls (does (frame f)) out) ≡ 0
-      → ReportedCause (c .settings) (actAnswer b (calls (does (frame f)) out))
-  unfolding refusedOn answerOn
-  frame-reports f out e =
-      let z : refusalOf s (frame f) ≡ 0 = sym (on .refuses (calls (does (frame f)) out)) ∙ e in
-      rw (on .answers (calls (does (frame f)) out), z) (reported-at c f z)
+  frame-reports : (f : Frame) (counts : List ℕ) → actRefusal b (otn-step f counts) ≡ 0 → ReportedCause (c .settings) (actAnswer b (otn-step f counts))
+  unfolding refusedOn answerOn refusalOf
+  frame-reports f counts e =
+      let z : refusalAt t f counts ≡ 0 = sym (on .refuses (otn-step f counts)) ∙ e in
+      rw (on .answers (otn-step f counts), z, report-is t f counts z) (reported-at b c on f (plain-accepts t f counts z))
 
 pub byte-demand-3 : EveryByteDemand3
 byte-demand-3 sup p uses e a =
     let b : List ℕ = bytesAfter (freshSup sup p) uses in
     let c : Course = courseOf p uses in
     let on : FromFresh b c = from-fresh sup p uses e a in
-    let d : Demand3 (c .settings) (c .events) = demand-3 (c .settings) (c .events) (on .accepted) in
+    let d : Demand3 (c .settings) (eventsAt c) = demand-3 (c .settings) (eventsAt c) (on .accepted) in
     record {
       since = d .since;
       line = λ out z. line-filled b c on out z d;
@@ -242,3 +288,17 @@ record-back n c = record {
   reads = (refl, (refl, (refl, (refl, (refl, (refl, (refl, (refl, (refl, (refl, (refl, tt)))))))))));
   under = λ head h. sym (getD-drop 2 (figuresOf n c) head 0) ∙ row-at 10 (λ k. getD (c .heads) k 0) (drop 12 (figuresOf n c)) head h;
 }
+
+-- the words of a level stand behind the twenty
+word-of : (figures : List ℕ) (n : ℕ) → 1 ≤ n → (i : ℕ) → i < 4 → getD figures (20 + 4 * (n - 1) + i) 0 ≡ getD (groupAt figures n) i 0
+word-of figures n low i h =
+    let e : 20 + 4 * (n - 1) + i ≡ (16 + 4 * n) + i = omega (arith, low) in
+    ap (λ (m : ℕ). getD figures m 0) e ∙ sym (getD-drop (16 + 4 * n) figures i 0) ∙ sym (getD-take 4 (drop (16 + 4 * n) figures) i 0 h)
+
+pub level-words : EveryLevelWords
+unfolding fourOf
+level-words t n six low high taken given =
+    let g : groupAt (markedOf t .figures) n ≡ fourOf (levelAt (t .levels) n) = own-figures t n six low high taken in
+    let at : (i : ℕ) → i < 4 → getD (markedOf t .figures) (20 + 4 * (n - 1) + i) 0 ≡ getD (fourOf (levelAt (t .levels) n)) i 0 =
+    λ i h. word-of (markedOf t .figures) n low i h ∙ ap (λ (l : List ℕ). getD l i 0) g in
+    (at 0 (lit< tt) ∙ rw given, (at 1 (lit< tt) ∙ rw given, (at 2 (lit< tt) ∙ rw given, (at 3 (lit< tt) ∙ rw given, tt))))

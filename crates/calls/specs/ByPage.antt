@@ -1,15 +1,21 @@
--- Every call from C by the page (crate page): no state between the calls and what they answer. Assumes nothing.
+-- Every call from C by the page and by the sheet (crates page and sheet): no state between the calls and what they answer. Assumes nothing.
 use mathlib.Core.Path.{_≡_}
-use mathlib.Core.List.{List, reverse}
-use Prim.Native.Nat.{ℕ}
-use lib.ListN.{length}
+use mathlib.Core.Bool.{true}
+use mathlib.Core.List.{List, [], _++_, reverse}
+use Prim.Native.Nat.{ℕ, zero, suc, _≤_}
+use lib.ListN.{length, replicate}
 use Rattle.words.specs.Words.{flat}
 use Rattle.codec.specs.Over.{poured}
-use Rattle.history.specs.History.{Call, does, reads, Answer, stepped, marked, traced}
+use Rattle.settings.specs.declared.Settings.{Settings}
+use Rattle.supervisor.specs.declared.Traced.{Traced}
+use Rattle.history.specs.History.{Frame, Event, frame, mark, does, reads, Answer, stepped, marked, traced}
 use Rattle.page.specs.Page.{answer}
+use Rattle.tandem.specs.Levels.{lowTo}
+use Rattle.sheet.specs.Sheet.{LevelEvent, eventsOf, Provisioned, never, with, provisioned, frameRefusal, stands, actions, causes, four, traced as levelTraced}
 use Rattle.word.specs.Report.{reportWord}
+use Rattle.word.specs.Level.{levelWord}
 use Rattle.card.specs.Calls.{unless, Provision, freshRefusal, freshSup}
-use Rattle.calls.specs.History.{calls, actAnswer, actFills, Use, bytesAfter, Course, courseOf, AllBytes}
+use Rattle.calls.specs.History.{otn-step, otn-mark, otn-trace, otn-level-report, otn-level-trace, actRefusal, actAnswer, actFills, Use, bytesAfter, Course, eventsAt, courseOf, AllBytes}
 
 -- an answer of the page as C has it: a refusal's number, or the report word of a frame, and 0 otherwise
 abbrev pub answerWord : Answer → ℕ
@@ -17,21 +23,63 @@ answerWord (stepped refusal report) = unless refusal (reportWord report) refusal
 answerWord (marked refusal figures) = refusal
 answerWord (traced refusal trace) = refusal
 
--- and what it makes of the lent record or buffer
-abbrev pub answerFill : List ℕ → Answer → List ℕ
-answerFill out (stepped refusal report) = out
-answerFill out (marked refusal figures) = unless refusal (poured out (flat figures)) out
-answerFill out (traced refusal trace) = unless refusal trace out
+-- and what it makes of the lent record or buffer; behind the page's figures of a mark stand those of the levels
+abbrev pub answerFill : List ℕ → List ℕ → Answer → List ℕ
+answerFill levels out (stepped refusal report) = out
+answerFill levels out (marked refusal figures) = unless refusal (poured out (flat (figures ++ levels))) out
+answerFill levels out (traced refusal trace) = unless refusal trace out
 
--- a trace is read into 64 bytes (12)
-abbrev pub Room : Call → List ℕ → Type 0
-Room (does e) out = Unit {0}
-Room (reads layer) out = length out ≡ 64
+-- the history of a course with its counts, the latest first; and without them
+abbrev pub sheetOf : Course → List LevelEvent
+sheetOf c = reverse (eventsOf (c .calls))
+
+abbrev pub pageOf : Course → List Event
+pageOf c = reverse (eventsAt c)
+
+-- the four figures of level n at the next mark, zeros where it is not provisioned; those of k levels from n on, and of levels 1 to 6
+unfoldable pub groupBy : Settings → ℕ → Provisioned → List LevelEvent → List ℕ
+groupBy p n never h = replicate 4 0
+groupBy p n (with o) h = four p n o h
+
+abbrev pub groupOf : Course → ℕ → List ℕ
+groupOf c n = groupBy (c .settings) n (provisioned n (c .calls)) (sheetOf c)
+
+unfoldable pub groupsFrom : ℕ → ℕ → Course → List ℕ
+groupsFrom zero n c = []
+groupsFrom (suc k) n c = groupOf c n ++ groupsFrom k (suc n) c
+
+abbrev pub groupsOf : Course → List ℕ
+groupsOf c = groupsFrom 6 1 c
+
+-- what is told of level n: nothing of one that is not provisioned
+unfoldable pub levelTold : Settings → ℕ → Provisioned → List LevelEvent → ℕ
+levelTold p n never h = 0
+levelTold p n (with o) h = levelWord true (stands p n o h) (actions p n o h) (causes p n o h)
+
+-- its accepted trace, 13 where it has none
+unfoldable pub levelRead : Settings → ℕ → Provisioned → List LevelEvent → Traced
+levelRead p n never h = record { refusal = 13; trace = replicate 64 0 }
+levelRead p n (with o) h = levelTraced p n o h
 
 -- what holds of every next call on the supervisor's bytes b after uses whose course is c
 pub record ByPage (b : List ℕ) (c : Course) : Type 0 where
-  pub answers : (d : Call) (out : List ℕ) → Room d out → actAnswer b (calls d out) ≡ answerWord (answer (c .settings) (reverse (c .events)) d)
-  pub fills : (d : Call) (out : List ℕ) → Room d out → actFills b (calls d out) ≡ answerFill out (answer (c .settings) (reverse (c .events)) d)
+  -- a frame: refused as on the sheet, whatever its counts are; and answered as on the page
+  pub refuses : (f : Frame) (counts : List ℕ) → actRefusal b (otn-step f counts) ≡ frameRefusal f counts (sheetOf c)
+  pub frames : (f : Frame) (counts : List ℕ) → lowTo 6 counts ≡ true
+      → actAnswer b (otn-step f counts) ≡ answerWord (answer (c .settings) (pageOf c) (does (frame f)))
+  -- a mark, and the record that it fills
+  pub marks : (out : List ℕ) → actAnswer b (otn-mark out) ≡ answerWord (answer (c .settings) (pageOf c) (does mark))
+  pub records : (out : List ℕ) → actFills b (otn-mark out) ≡ answerFill (groupsOf c) out (answer (c .settings) (pageOf c) (does mark))
+  -- the accepted trace of section and path, into 64 bytes (12)
+  pub traces : (layer : ℕ) (out : List ℕ) → length out ≡ 64 → actAnswer b (otn-trace layer out) ≡ answerWord (answer (c .settings) (pageOf c) (reads layer))
+  pub traceFills : (layer : ℕ) (out : List ℕ) → length out ≡ 64
+      → actFills b (otn-trace layer out) ≡ answerFill [] out (answer (c .settings) (pageOf c) (reads layer))
+  -- a level's report and accepted trace
+  pub tells : (n : ℕ) → 1 ≤ n → n ≤ 6 → actAnswer b (otn-level-report n) ≡ levelTold (c .settings) n (provisioned n (c .calls)) (sheetOf c)
+  pub levelTraces : (n : ℕ) (out : List ℕ) → 1 ≤ n → n ≤ 6 → length out ≡ 64
+      → actAnswer b (otn-level-trace n out) ≡ levelRead (c .settings) n (provisioned n (c .calls)) (sheetOf c) .refusal
+  pub levelFills : (n : ℕ) (out : List ℕ) → 1 ≤ n → n ≤ 6 → length out ≡ 64
+      → let a : Traced = levelRead (c .settings) n (provisioned n (c .calls)) (sheetOf c) in actFills b (otn-level-trace n out) ≡ unless (a .refusal) (a .trace) out
 
 -- It holds of every list of uses after an accepted otn_fresh on any bytes.
 abbrev pub EveryByPage : Type 0

@@ -1,5 +1,6 @@
--- Histories of calls from C: any of the four calls, in any order, with any bytes, numbers and buffers. Assumes nothing.
+-- Histories of calls from C: any of the eight calls, in any order, with any bytes, numbers and buffers. Assumes nothing.
 use mathlib.Core.Path.{_≡_}
+use mathlib.Core.Bool.{_&&_}
 use mathlib.Core.List.{List, [], _∷_, _++_}
 use Prim.Native.Nat.{ℕ}
 use lib.Dec.{eqb, leb}
@@ -7,53 +8,80 @@ use lib.ListN.{length}
 use Rattle.answer.specs.Checks.{check, firstOf}
 use Rattle.words.specs.Words.{flat}
 use Rattle.codec.specs.Over.{poured}
-use Rattle.causes.specs.Causes.{reportOf}
+use Rattle.settings.specs.declared.Request.{Request}
 use Rattle.settings.specs.declared.Settings.{Settings}
 use Rattle.settings.specs.Ranges.{SettingsIn}
 use Rattle.supervisor.specs.Supervisor.{freshOf, layerAt}
-use Rattle.supervisor.specs.declared.Supervisor.{Supervisor}
-use Rattle.history.specs.History.{Event, frame, mark, standsAt, reached, refusalOf, Accepted, Call, does, reads}
+use Rattle.history.specs.History.{Frame, Event, Accepted}
 use Rattle.history.specs.Ranges.{IsBytes}
-use Rattle.image.specs.Image.{bytesOf}
+use Rattle.tandem.specs.Levels.{levelAt}
+use Rattle.tandem.specs.Tandem.{freshTandem, giveRefusal, markedOf, levelReport, levelTraced}
+use Rattle.tandem.specs.declared.Tandem.{Tandem}
+use Rattle.watch.specs.Watch.{LevelCall, gives, frames, marks, refusalAt, framedAt, AllTaken, eventsAmong}
+use Rattle.sheet.specs.Sheet.{reached}
+use Rattle.bays.specs.Image.{tandemBytes}
 use Rattle.word.specs.Report.{reportWord}
 use Rattle.word.specs.Table.{bitsOf}
-use Rattle.card.specs.Calls.{unless, Provision, provisionRefusal, settingsBy, freshRefusal, freshSup, callRefusal, callAnswer, callSup, markRefusal, markSup, figuresAt, markRecord, traceRefused, traceOut}
+use Rattle.card.specs.Calls.{unless, Provision, provisionRefusal, settingsBy, freshRefusal, freshSup, levelRefusal, levelSup, callRefusal, callAnswer, callSup, markRefusal, markSup, markRecord, traceRefused, traceOut, toldRefusal, toldWord, toldAnswer, levelTraceRefused, levelTraceOut}
 
--- An act of C: otn_fresh; or otn_step, otn_mark or otn_trace, with the record or the buffer that it is lent to fill. otn_step fills none.
+-- An act of C, named as the call: with a level's request and names, a frame and its six counts (otn_step has six counts 0), a layer or a level, and the
+-- record or the buffer that the call is lent to fill.
 pub data Act : Type 0 where
-  fresh : Provision → Act
-  calls : Call → List ℕ → Act
+  otn-fresh : Provision → Act
+  otn-level : ℕ → Request → List ℕ → Act
+  otn-step : Frame → List ℕ → Act
+  otn-mark : List ℕ → Act
+  otn-trace : ℕ → List ℕ → Act
+  otn-level-report : ℕ → Act
+  otn-level-trace : ℕ → List ℕ → Act
 
 -- By the calls' contracts, on bytes: the refusal, the answer, the buffer after it and the supervisor's bytes after it.
 
 unfoldable pub actRefusal : List ℕ → Act → ℕ
-actRefusal sup (fresh p) = freshRefusal sup p
-actRefusal sup (calls (does (frame f)) out) = callRefusal sup (f .overhead) (f .flags) (f .sm) (f .pm)
-actRefusal sup (calls (does mark) out) = markRefusal sup
-actRefusal sup (calls (reads layer) out) = traceRefused sup layer out
+actRefusal sup (otn-fresh p) = freshRefusal sup p
+actRefusal sup (otn-level n r names) = levelRefusal sup n r names
+actRefusal sup (otn-step f counts) = callRefusal sup (f .overhead) (f .flags) (f .sm) (f .pm) counts
+actRefusal sup (otn-mark out) = markRefusal sup
+actRefusal sup (otn-trace layer out) = traceRefused sup layer out
+actRefusal sup (otn-level-report n) = toldRefusal sup n
+actRefusal sup (otn-level-trace n out) = levelTraceRefused sup n out
 
 unfoldable pub actAnswer : List ℕ → Act → ℕ
-actAnswer sup (fresh p) = freshRefusal sup p
-actAnswer sup (calls (does (frame f)) out) = callAnswer sup (f .overhead) (f .flags) (f .sm) (f .pm)
-actAnswer sup (calls (does mark) out) = markRefusal sup
-actAnswer sup (calls (reads layer) out) = traceRefused sup layer out
+actAnswer sup (otn-fresh p) = freshRefusal sup p
+actAnswer sup (otn-level n r names) = levelRefusal sup n r names
+actAnswer sup (otn-step f counts) = callAnswer sup (f .overhead) (f .flags) (f .sm) (f .pm) counts
+actAnswer sup (otn-mark out) = markRefusal sup
+actAnswer sup (otn-trace layer out) = traceRefused sup layer out
+actAnswer sup (otn-level-report n) = toldAnswer sup n
+actAnswer sup (otn-level-trace n out) = levelTraceRefused sup n out
 
 unfoldable pub actFills : List ℕ → Act → List ℕ
-actFills sup (fresh p) = []
-actFills sup (calls (does (frame f)) out) = out
-actFills sup (calls (does mark) out) = markRecord sup out
-actFills sup (calls (reads layer) out) = traceOut sup layer out
+actFills sup (otn-fresh p) = []
+actFills sup (otn-level n r names) = []
+actFills sup (otn-step f counts) = []
+actFills sup (otn-mark out) = markRecord sup out
+actFills sup (otn-trace layer out) = traceOut sup layer out
+actFills sup (otn-level-report n) = []
+actFills sup (otn-level-trace n out) = levelTraceOut sup n out
 
 unfoldable pub actBytes : List ℕ → Act → List ℕ
-actBytes sup (fresh p) = freshSup sup p
-actBytes sup (calls (does (frame f)) out) = callSup sup (f .overhead) (f .flags) (f .sm) (f .pm)
-actBytes sup (calls (does mark) out) = markSup sup
-actBytes sup (calls (reads layer) out) = sup
+actBytes sup (otn-fresh p) = freshSup sup p
+actBytes sup (otn-level n r names) = levelSup sup n r names
+actBytes sup (otn-step f counts) = callSup sup (f .overhead) (f .flags) (f .sm) (f .pm) counts
+actBytes sup (otn-mark out) = markSup sup
+actBytes sup (otn-trace layer out) = sup
+actBytes sup (otn-level-report n) = sup
+actBytes sup (otn-level-trace n out) = sup
 
 -- the buffer before it
 unfoldable pub bufferOf : Act → List ℕ
-bufferOf (fresh p) = []
-bufferOf (calls c out) = out
+bufferOf (otn-fresh p) = []
+bufferOf (otn-level n r names) = []
+bufferOf (otn-step f counts) = []
+bufferOf (otn-mark out) = out
+bufferOf (otn-trace layer out) = out
+bufferOf (otn-level-report n) = []
+bufferOf (otn-level-trace n out) = out
 
 -- A use: an act on the supervisor's own bytes, as the last use left them, or on other bytes.
 pub data Lent : Type 0 where
@@ -73,47 +101,65 @@ unfoldable pub bytesAfter : List ℕ → List Use → List ℕ
 bytesAfter sup [] = sup
 bytesAfter sup (u ∷ us) = bytesAfter (bytesUsed sup (u .lent) (u .act)) us
 
--- By the definitions, on a supervisor: the refusal, the answer and the buffer after the act.
+-- By the definitions, on a supervisor with its levels: the refusal, the answer and the buffer after the act.
 
-unfoldable pub refusedOn : Supervisor → Act → ℕ
-refusedOn s (fresh p) = provisionRefusal p
-refusedOn s (calls (does e) out) = refusalOf s e
-refusedOn s (calls (reads layer) out) =
-    firstOf (check 11 (leb layer 1) ∷ check 12 (eqb (length out) 64) ∷ check 13 (layerAt s layer .known) ∷ [])
+unfoldable pub refusedOn : Tandem → Act → ℕ
+refusedOn t (otn-fresh p) = provisionRefusal p
+refusedOn t (otn-level n r names) = giveRefusal t n r names
+refusedOn t (otn-step f counts) = refusalAt t f counts
+refusedOn t (otn-mark out) = markedOf t .refusal
+refusedOn t (otn-trace layer out) =
+    firstOf (check 11 (leb layer 1) ∷ check 12 (eqb (length out) 64) ∷ check 13 (layerAt (t .base) layer .known) ∷ [])
+refusedOn t (otn-level-report n) = levelReport t n .refusal
+refusedOn t (otn-level-trace n out) =
+    firstOf (check 12 (eqb (length out) 64) ∷ check 13 (levelAt (t .levels) n .given && levelAt (t .levels) n .state .layer .known) ∷ [])
 
-unfoldable pub answerOn : Supervisor → Act → ℕ
-answerOn s (fresh p) = provisionRefusal p
-answerOn s (calls (does (frame f)) out) =
-    unless (refusalOf s (frame f)) (reportWord (reportOf (standsAt s f) (f .sm) (f .pm))) (refusalOf s (frame f))
-answerOn s (calls (does mark) out) = refusalOf s mark
-answerOn s (calls (reads layer) out) = refusedOn s (calls (reads layer) out)
+unfoldable pub answerOn : Tandem → Act → ℕ
+answerOn t (otn-fresh p) = provisionRefusal p
+answerOn t (otn-level n r names) = giveRefusal t n r names
+answerOn t (otn-step f counts) = unless (refusalAt t f counts) (reportWord (framedAt t f counts .report)) (refusalAt t f counts)
+answerOn t (otn-mark out) = markedOf t .refusal
+answerOn t (otn-trace layer out) = refusedOn t (otn-trace layer out)
+answerOn t (otn-level-report n) = unless (levelReport t n .refusal) (toldWord (levelReport t n)) (levelReport t n .refusal)
+answerOn t (otn-level-trace n out) = refusedOn t (otn-level-trace n out)
 
-unfoldable pub fillOn : Supervisor → Act → List ℕ
-fillOn s (fresh p) = []
-fillOn s (calls (does (frame f)) out) = out
-fillOn s (calls (does mark) out) = unless (refusalOf s mark) (poured out (flat (figuresAt s))) out
-fillOn s (calls (reads layer) out) = unless (refusedOn s (calls (reads layer) out)) (layerAt s layer .accepted) out
+unfoldable pub fillOn : Tandem → Act → List ℕ
+fillOn t (otn-fresh p) = []
+fillOn t (otn-level n r names) = []
+fillOn t (otn-step f counts) = []
+fillOn t (otn-mark out) = unless (markedOf t .refusal) (poured out (flat (markedOf t .figures))) out
+fillOn t (otn-trace layer out) = unless (refusedOn t (otn-trace layer out)) (layerAt (t .base) layer .accepted) out
+fillOn t (otn-level-report n) = []
+fillOn t (otn-level-trace n out) = unless (refusedOn t (otn-level-trace n out)) (levelTraced t n .trace) out
 
--- The course of the uses by the definitions: the settings of the last accepted otn_fresh, and the frames and marks accepted since.
+-- The course of the uses by the definitions: the settings of the last accepted otn_fresh, and the levels, frames and marks accepted since.
 pub record Course : Type 0 where
   pub settings : Settings
-  pub events : List Event
+  pub calls : List LevelCall
+
+-- its frames and marks, as line, section and path have them
+abbrev pub eventsAt : Course → List Event
+eventsAt c = eventsAmong (c .calls)
 
 -- the definitions' supervisor there
-abbrev pub supervisorAt : Course → Supervisor
-supervisorAt c = reached (c .settings) (c .events)
+abbrev pub tandemAt : Course → Tandem
+tandemAt c = reached (c .settings) (c .calls)
 
 abbrev pub begunBy : Provision → Course
-begunBy p = record { settings = settingsBy p; events = [] }
+begunBy p = record { settings = settingsBy p; calls = [] }
 
-abbrev pub withEvent : Course → Event → Course
-withEvent c e = record { settings = c .settings; events = c .events ++ (e ∷ []) }
+abbrev pub withCall : Course → LevelCall → Course
+withCall c k = record { settings = c .settings; calls = c .calls ++ (k ∷ []) }
 
--- the course after an act on the supervisor's bytes: an accepted otn_fresh starts anew, an accepted frame or mark is one event more
+-- the course after an act on the supervisor's bytes: an accepted otn_fresh starts anew, an accepted level, frame or mark is one call more
 unfoldable pub courseActed : Course → Act → Course
-courseActed c (fresh p) = unless (provisionRefusal p) (begunBy p) c
-courseActed c (calls (does e) out) = unless (refusalOf (supervisorAt c) e) (withEvent c e) c
-courseActed c (calls (reads layer) out) = c
+courseActed c (otn-fresh p) = unless (provisionRefusal p) (begunBy p) c
+courseActed c (otn-level n r names) = unless (giveRefusal (tandemAt c) n r names) (withCall c (gives n r names)) c
+courseActed c (otn-step f counts) = unless (refusalAt (tandemAt c) f counts) (withCall c (frames f counts)) c
+courseActed c (otn-mark out) = unless (markedOf (tandemAt c) .refusal) (withCall c marks) c
+courseActed c (otn-trace layer out) = c
+courseActed c (otn-level-report n) = c
+courseActed c (otn-level-trace n out) = c
 
 unfoldable pub courseUsed : Course → Lent → Act → Course
 courseUsed c own a = courseActed c a
@@ -128,10 +174,13 @@ courseOf p uses = courseAfter (begunBy p) uses
 
 -- the overhead of every frame is bytes, as a uint8_t is
 abbrev pub ActBytes : Act → Type 0
-ActBytes (fresh p) = Unit {0}
-ActBytes (calls (does (frame f)) out) = IsBytes (f .overhead)
-ActBytes (calls (does mark) out) = Unit {0}
-ActBytes (calls (reads layer) out) = Unit {0}
+ActBytes (otn-fresh p) = Unit {0}
+ActBytes (otn-level n r names) = Unit {0}
+ActBytes (otn-step f counts) = IsBytes (f .overhead)
+ActBytes (otn-mark out) = Unit {0}
+ActBytes (otn-trace layer out) = Unit {0}
+ActBytes (otn-level-report n) = Unit {0}
+ActBytes (otn-level-trace n out) = Unit {0}
 
 abbrev pub AllBytes : List Use → Type 0
 AllBytes [] = Unit {0}
@@ -139,19 +188,20 @@ AllBytes (u ∷ us) = ActBytes (u .act) × AllBytes us
 
 -- Demand 2 on bytes: what holds of the supervisor's bytes b after uses whose course is c.
 pub record FromFresh (b : List ℕ) (c : Course) : Type 0 where
-  -- the course is one of the definitions, and the bytes are its supervisor's
+  -- the course is one of the definitions, with levels and of line, section and path alone, and the bytes are its supervisor's
   pub settings : SettingsIn (c .settings)
-  pub accepted : Accepted (freshOf (c .settings)) (c .events)
-  pub holds : b ≡ bytesOf (supervisorAt c)
+  pub taken : AllTaken (freshTandem (freshOf (c .settings))) (c .calls)
+  pub accepted : Accepted (freshOf (c .settings)) (eventsAt c)
+  pub holds : b ≡ tandemBytes (tandemAt c)
   -- every next act is that of the definitions there; C reads its refusal from its answer (otn_refusal)
-  pub refuses : (a : Act) → actRefusal b a ≡ refusedOn (supervisorAt c) a
-  pub answers : (a : Act) → actAnswer b a ≡ answerOn (supervisorAt c) a
+  pub refuses : (a : Act) → actRefusal b a ≡ refusedOn (tandemAt c) a
+  pub answers : (a : Act) → actAnswer b a ≡ answerOn (tandemAt c) a
   pub told : (a : Act) → bitsOf (actAnswer b a) 0 8 ≡ actRefusal b a
-  pub fills : (a : Act) → actFills b a ≡ fillOn (supervisorAt c) a
-  pub leaves : (a : Act) → actBytes b a ≡ bytesOf (supervisorAt (courseActed c a))
+  pub fills : (a : Act) → actFills b a ≡ fillOn (tandemAt c) a
+  pub leaves : (a : Act) → actBytes b a ≡ tandemBytes (tandemAt (courseActed c a))
   -- 17 is not met on these bytes, and is met on bytes of another length
   pub not17 : (a : Act) → actRefusal b a ≡ 17 → ⊥
-  pub elsewhere : (l : List ℕ) → (length l ≡ 688 → ⊥) → (a : Act) → actRefusal l a ≡ 17
+  pub elsewhere : (l : List ℕ) → (length l ≡ 2448 → ⊥) → (a : Act) → actRefusal l a ≡ 17
   -- a refused act, on any bytes, leaves the bytes and the buffer as they were
   pub kept : (l : List ℕ) (a : Act) → (actRefusal l a ≡ 0 → ⊥) → (actBytes l a ≡ l) × (actFills l a ≡ bufferOf a)
 

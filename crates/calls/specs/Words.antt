@@ -1,12 +1,19 @@
--- The record of a closed second as C reads it: a row for each of its words, named as include/otn.h names it. Assumes nothing.
+-- The record of a closed second as C reads it: a row for each of its words, named as include/otn.h names it; then the four words of each level. Assumes
+-- nothing.
 use mathlib.Core.Path.{_≡_}
+use mathlib.Core.Bool.{true}
 use mathlib.Core.List.{List, [], _∷_}
-use Prim.Native.Nat.{ℕ, _+_, _<_}
+use Prim.Native.Nat.{ℕ, _+_, _-_, _*_, _≤_, _<_}
 use Prim.Native.String.{String}
-use lib.ListN.{getD}
+use lib.ListN.{length, getD}
 use Rattle.answer.specs.Bits.{flag}
 use Rattle.second.specs.Second.{figuresOf}
 use Rattle.second.specs.declared.Second.{Second}
+use Rattle.second.specs.declared.Blocks.{Blocks}
+use Rattle.level.specs.Level.{levelClosed}
+use Rattle.tandem.specs.Levels.{levelAt}
+use Rattle.tandem.specs.Tandem.{markedOf}
+use Rattle.tandem.specs.declared.Tandem.{Tandem}
 
 -- the name in C, the word's place, and what it holds of the second's number and of the closed second
 pub record Word : Type 0 where
@@ -45,3 +52,30 @@ pub record RecordBack (n : ℕ) (c : Second) : Type 0 where
 
 abbrev pub EveryRecordBack : Type 0
 EveryRecordBack = (n : ℕ) (c : Second) → RecordBack n c
+
+-- The words of a level: the name in C, the place in the level's four, and what it holds of the level's closed second.
+pub record LevelWord : Type 0 where
+  pub name : String
+  pub place : ℕ
+  pub value : Blocks → ℕ
+
+abbrev pub levelWord : String → ℕ → (Blocks → ℕ) → LevelWord
+levelWord name place value = record { name = name; place = place; value = value }
+
+abbrev pub levelWords : List LevelWord
+levelWords =
+    levelWord "OTN_LEVEL_NEAR" 0 (λ b. b .near .0)
+    ∷ levelWord "OTN_LEVEL_FAR" 1 (λ b. b .far .0)
+    ∷ levelWord "OTN_LEVEL_NEAR_DS" 2 (λ b. flag (b .neards))
+    ∷ levelWord "OTN_LEVEL_FAR_DS" 3 (λ b. flag (b .fards))
+    ∷ []
+
+-- as C reads them (otn_level_figure): each row's value stands in its place behind the twenty, four for each level
+abbrev pub LevelWordsRead : List ℕ → ℕ → Blocks → List LevelWord → Type 0
+LevelWordsRead figures n b [] = Unit {0}
+LevelWordsRead figures n b (w ∷ ws) = (getD figures (20 + 4 * (n - 1) + w .place) 0 ≡ w .value b) × LevelWordsRead figures n b ws
+
+-- The figures of every accepted mark: of each provisioned level its four.
+abbrev pub EveryLevelWords : Type 0
+EveryLevelWords = (t : Tandem) (n : ℕ) → length (t .levels) ≡ 6 → 1 ≤ n → n ≤ 6 → markedOf t .refusal ≡ 0 → levelAt (t .levels) n .given ≡ true
+    → LevelWordsRead (markedOf t .figures) n (levelClosed (levelAt (t .levels) n .second)) levelWords

@@ -1,4 +1,6 @@
 pub mod Calls
+pub mod Halves
 pub mod Parts
 pub mod Refuted
+pub mod Ssf
 pub mod Unique

@@ -1,4 +1,4 @@
--- A frame and a mark in sound bytes, part by part, leave the image of the supervisor of the definitions. Assumes nothing.
+-- A frame and a mark in sound bytes of line, section and path, part by part, leave the image of the supervisor of the definitions. Assumes nothing.
 use Prim.Native.Nat.{ℕ, _+_}
 use mathlib.Core.Path.{_≡_, refl, sym, ap, _∙_}
 use mathlib.Core.Bool.{Bool, true, false, _||_}
@@ -29,14 +29,15 @@ use Rattle.numbers.specs.Held.{heldBytes}
 use Rattle.image.specs.Image.{lineHead, countsOf, linePieces, sectionHeld, pathHeld, bytesOf, loadOf, Sizes, Arrays}
 use Rattle.image.proofs.Bytes.{counts-long, held-long}
 use Rattle.image.proofs.Ranges.{arrays-of, same-ranges, round-trip}
-use Rattle.word.specs.Report.{reportWord}
 use Rattle.place.specs.declared.LineFrame.{LineFrame}
 use Rattle.place.specs.Place.{LineAt, SectionAt, PathAt, talliedIn, CloseAt, openedIn}
 use Rattle.cycle.proofs.Parts.{lent, back}
 use Rattle.records.specs.Records.{lineFront, InFrame, InMark}
 use Rattle.records.proofs.Frames.{in-frame}
 use Rattle.records.proofs.Marks.{in-mark}
-use Rattle.card.specs.Calls.{unfiled, figuresAt}
+use Rattle.card.specs.declared.Layered.{Layered}
+use Rattle.card.specs.declared.Reported.{Reported}
+use Rattle.card.specs.Calls.{unfiled, layeredOf, reportedOf, figuresAt}
 
 -- The image by the parts of a frame: the line's front, the open second's words, the section, the path.
 
@@ -84,6 +85,9 @@ module _ (s : Supervisor) (r : Ranged s) (overhead : List ℕ) (flags sm pm : �
       let i = layer-in (s .layers .path .layer) _ _ _ _ _ (r .layers .path .layer) in
       record { accepted = i .accepted; gathered = i .gathered; previous = i .previous; names = r .settings .path .names }
 
+  pub frame-sizes : Arrays (frameOf s overhead flags sm pm)
+  frame-sizes = record { section = section-sizes; path = path-sizes }
+
 module _ (l : List ℕ) (e : sound l ≡ true) (overhead : List ℕ) (flags sm pm : ℕ) (n : length overhead ≡ 64) (o : Overhead) (a : LineFrame) (ssf acts : Bool) (st : SectionStands) (pt : PathStands)
     (x1 x2 x3 : List ℕ) where
   abbrev l1 : List ℕ
@@ -98,7 +102,7 @@ module _ (l : List ℕ) (e : sound l ≡ true) (overhead : List ℕ) (flags sm p
   pub layers-are : o ≡ overheadOf (take 64 overhead) → LineAt (take 64 l) (o .four) (o .three) (o .mfas) flags a x1 → ssf ≡ ssfOf (a .line)
       → SectionAt (take 288 (drop 112 l1)) ssf (a .multi) (o .section) sm st x2 → acts ≡ timActs (st .tim) (st .disabled)
       → PathAt (take 288 (drop 400 l2)) (ssf || acts) (a .multi) (o .path) pm pt x3
-      → (_≡_ {A = Standing} (record { line = a .line; section = st; path = pt }) (standsAfter (loadOf l) overhead flags))
+      → (_≡_ {A = Layered} (record { standing = record { line = a .line; section = st; path = pt }; multi = a .multi }) (layeredOf (loadOf l) overhead flags sm pm))
       × (l3 ≡ unfiled (loadOf l) (frameOf (loadOf l) overhead flags sm pm))
   layers-are given hl es hs ea hp =
       let eo : o ≡ overheadOf overhead = given ∙ ap overheadOf (take-all 64 overhead (omega arith)) in
@@ -128,17 +132,18 @@ module _ (l : List ℕ) (e : sound l ≡ true) (overhead : List ℕ) (flags sm p
       let u : acts ≡ timActs (d .section .tim) (d .section .disabled) = ea ∙ ap (λ (v : SectionStands). timActs (v .tim) (v .disabled)) (X .0) in
       let Y = f .path pt x3 (rw (b2, q, u, L .0 .1, eo) at hp) in
       let i3 : l3 ≡ joined (fourOf x1 C x2 x3) = back 3 qs l2 x3 i2 z2 (omega arith) in
-      (rw (L .0 .0, X .0, Y .0), i3 ∙ rw (L .1, X .1, Y .1))
+      (rw (L .0 .0, L .0 .1, X .0, Y .0), i3 ∙ rw (L .1, X .1, Y .1))
 
-module _ (l : List ℕ) (e : sound l ≡ true) (overhead : List ℕ) (flags sm pm : ℕ) (d : Standing) (rep : Report) (w : ℕ) (l3 x4 : List ℕ) where
+module _ (l : List ℕ) (e : sound l ≡ true) (overhead : List ℕ) (flags sm pm : ℕ) (a : Layered) (rep : Report) (l3 x4 : List ℕ) where
   abbrev l4 : List ℕ
   l4 = take 64 l3 ++ (x4 ++ drop 48 (drop 64 l3))
 
-  pub filed-is : d ≡ standsAfter (loadOf l) overhead flags → l3 ≡ unfiled (loadOf l) (frameOf (loadOf l) overhead flags sm pm)
-      → rep ≡ reportOf d sm pm → x4 ≡ talliedIn (take 48 (drop 64 l3)) (rep .head) → w ≡ reportWord rep
-      → (w ≡ reportWord (reportOf (standsAfter (loadOf l) overhead flags) sm pm)) × (l4 ≡ bytesOf (frameOf (loadOf l) overhead flags sm pm))
+  pub filed-is : a ≡ layeredOf (loadOf l) overhead flags sm pm → l3 ≡ unfiled (loadOf l) (frameOf (loadOf l) overhead flags sm pm)
+      → rep ≡ reportOf (a .standing) sm pm → x4 ≡ talliedIn (take 48 (drop 64 l3)) (rep .head)
+      → (_≡_ {A = Reported} (record { report = rep; multi = a .multi }) (reportedOf (loadOf l) overhead flags sm pm))
+      × (l4 ≡ bytesOf (frameOf (loadOf l) overhead flags sm pm))
   unfolding reportOf
-  filed-is ed i3 er ht ew =
+  filed-is ed i3 er ht =
       let s : Supervisor = loadOf l in
       let r : Ranged s = ranged l e in
       let t : Supervisor = frameOf s overhead flags sm pm in
@@ -148,14 +153,14 @@ module _ (l : List ℕ) (e : sound l ≡ true) (overhead : List ℕ) (flags sm p
       let ps : List Piece = fourOf (lineFront t) C S P in
       let z3 : Sized ps = (refl, (counts-long s, (held-long (sectionHeld t) (section-sizes s r overhead flags sm pm), (held-long (pathHeld t) (path-sizes s r overhead flags sm pm), tt)))) in
       let b3 : take 48 (drop 64 l3) ≡ C = lent 1 ps l3 i3 z3 in
-      let v : rep ≡ reportOf (standsAfter s overhead flags) sm pm = rw ed at er in
+      let v : rep ≡ reportOf (standsAfter s overhead flags) sm pm = er ∙ ap (λ (x : Layered). reportOf (x .standing) sm pm) ed in
       let h : x4 ≡ flat (countsOf (t .second)) = rw (b3, v) at ht ∙ in-frame s r overhead flags sm pm .tally in
       let i4 : l4 ≡ joined (fourOf (lineFront t) x4 S P) = back 1 ps l3 x4 i3 z3 (omega arith) in
-      (ew ∙ ap reportWord v, i4 ∙ ap (λ (x : List ℕ). joined (fourOf (lineFront t) x S P)) h ∙ sym (four-is t))
+      (rw (v, ed), i4 ∙ ap (λ (x : List ℕ). joined (fourOf (lineFront t) x S P)) h ∙ sym (four-is t))
 
 -- A mark.
 
-marked-sizes : (s : Supervisor) → Ranged s → Arrays (nextSecond s)
+pub marked-sizes : (s : Supervisor) → Ranged s → Arrays (nextSecond s)
 unfolding nextSecond
 marked-sizes s r = record {
   section = record { accepted = r .layers .section .layer .accepted; gathered = r .layers .section .layer .gathered; previous = r .layers .section .layer .previous; names = r .settings .section .names };

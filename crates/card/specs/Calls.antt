@@ -1,7 +1,8 @@
--- What each call from C answers, and what the lent bytes hold after it. "Checked in number order, after 17": each call's tests are a
--- list, 17 first. "A refusal answers its number and nothing else; supervisor and lent buffers keep their contents." Assumes nothing.
+-- What each call from C answers, and what the lent bytes hold after it: the supervisor with six tandem levels that stands in 2448 bytes, by its
+-- definitions. "Checked in number order, after 17": each call's tests are a list, 17 first. "A refusal answers its number and nothing else; supervisor
+-- and lent buffers keep their contents." Assumes nothing.
 use mathlib.Core.Path.{_≡_}
-use mathlib.Core.Bool.{cond, _&&_}
+use mathlib.Core.Bool.{Bool, cond, _&&_}
 use mathlib.Core.List.{List, [], _∷_, _++_}
 use Prim.Native.Nat.{ℕ, _+_}
 use lib.Dec.{eqb, leb, ltb}
@@ -9,18 +10,26 @@ use lib.ListN.{length}
 use Rattle.answer.specs.Checks.{Check, check, firstOf}
 use Rattle.words.specs.Words.{flat}
 use Rattle.codec.specs.Over.{poured}
-use Rattle.causes.specs.Causes.{reportOf}
+use Rattle.causes.specs.Causes.{timActs, reportOf}
+use Rattle.layer.specs.Layer.{timOf}
 use Rattle.second.specs.Second.{closedOf, figuresOf}
 use Rattle.settings.specs.Settings.{settingsChecks, settingsRefusal, optionsOf}
-use Rattle.supervisor.specs.Supervisor.{freshOf, stepChecks, standsAfter, frameOf, nextSecond, layerAt}
+use Rattle.supervisor.specs.Supervisor.{freshOf, standsAfter, frameOf, layerAt}
 use Rattle.settings.specs.declared.Request.{Request}
 use Rattle.settings.specs.declared.Settings.{Settings}
 use Rattle.supervisor.specs.declared.Supervisor.{Supervisor}
-use Rattle.ranges.specs.Sound.{sound}
 use Rattle.numbers.specs.Numbers.{headBytes, alignBytes}
-use Rattle.numbers.specs.Held.{heldBytes}
-use Rattle.image.specs.Image.{lineHead, countsOf, sectionHeld, pathHeld, loadOf, bytesOf}
+use Rattle.numbers.specs.Held.{Held, heldBytes, layerFrom}
+use Rattle.image.specs.Image.{lineHead, countsOf, sectionHeld, pathHeld}
+use Rattle.tandem.specs.Levels.{isLevel, levelAt, lowTo}
+use Rattle.tandem.specs.Tandem.{freshTandem, requestChecks, placeChecks, giveOf, frameChecks, framedOf, markedOf, levelReport, levelTraced}
+use Rattle.tandem.specs.declared.Level.{Level}
+use Rattle.tandem.specs.declared.LevelReport.{LevelReport}
+use Rattle.bays.specs.Image.{tandemBytes, tandemFrom, tandemSound}
 use Rattle.word.specs.Report.{reportWord}
+use Rattle.word.specs.Level.{levelWord}
+use Rattle.card.specs.declared.Layered.{Layered}
+use Rattle.card.specs.declared.Reported.{Reported}
 
 -- by a refusal's number: what is made where it is 0, what is kept where it is not
 abbrev pub unless : {A : Type 0} → ℕ → A → A → A
@@ -46,7 +55,7 @@ provisionBy k sthr sdegm pthr pdegm smode pmode sdis pdis snames pnames = record
 
 -- otn_fresh: 17 where the bytes have a wrong length (they are not looked at), then 5 to 10
 abbrev pub freshChecks : List ℕ → Provision → List Check
-freshChecks sup p = check 17 (eqb (length sup) 688) ∷ settingsChecks (p .k) (p .section) (p .path) (p .snames) (p .pnames)
+freshChecks sup p = check 17 (eqb (length sup) 2448) ∷ settingsChecks (p .k) (p .section) (p .path) (p .snames) (p .pnames)
 
 unfoldable pub freshRefusal : List ℕ → Provision → ℕ
 freshRefusal sup p = firstOf (freshChecks sup p)
@@ -62,62 +71,92 @@ abbrev pub freshBy : Provision → Supervisor
 freshBy p = freshOf (settingsBy p)
 
 unfoldable pub freshSup : List ℕ → Provision → List ℕ
-freshSup sup p = unless (freshRefusal sup p) (bytesOf (freshBy p)) sup
+freshSup sup p = unless (freshRefusal sup p) (tandemBytes (freshTandem (freshBy p))) sup
 
 pub record FreshCall (sup : List ℕ) (p : Provision) (r : ℕ) (after : List ℕ) : Type 0 where
   pub answers : r ≡ freshRefusal sup p
   pub holds : after ≡ freshSup sup p
 
--- otn_step: 17, then 1 to 4; an accepted frame's report stands above the low byte
-abbrev pub callChecks : List ℕ → List ℕ → ℕ → ℕ → ℕ → List Check
-callChecks sup overhead flags sm pm = check 17 (sound sup) ∷ stepChecks (loadOf sup) overhead flags sm pm
+-- what C asks of a level
+abbrev pub requestBy : ℕ → ℕ → ℕ → ℕ → Request
+requestBy thr degm mode dis = record { thr = thr; degm = degm; mode = mode; dis = dis }
+
+-- otn_level: 17, then 6 to 10, 16 and 18; level n is provisioned
+abbrev pub levelChecks : List ℕ → ℕ → Request → List ℕ → List Check
+levelChecks sup n r names =
+    check 17 (tandemSound sup) ∷ (requestChecks (tandemFrom sup .base .settings .k) r names ++ placeChecks (tandemFrom sup) n)
+
+unfoldable pub levelRefusal : List ℕ → ℕ → Request → List ℕ → ℕ
+levelRefusal sup n r names = firstOf (levelChecks sup n r names)
+
+unfoldable pub levelSup : List ℕ → ℕ → Request → List ℕ → List ℕ
+levelSup sup n r names = unless (levelRefusal sup n r names) (tandemBytes (giveOf (tandemFrom sup) n r names .tandem)) sup
+
+pub record LevelCall (sup : List ℕ) (n : ℕ) (request : Request) (names : List ℕ) (r : ℕ) (after : List ℕ) : Type 0 where
+  pub answers : r ≡ levelRefusal sup n request names
+  pub holds : after ≡ levelSup sup n request names
+
+-- otn_step_levels, with the violation counts of levels 1 to 6: 17, then 1 to 4; an accepted frame's report stands above the low byte. otn_step is this
+-- with six counts 0.
+abbrev pub callChecks : List ℕ → List ℕ → ℕ → ℕ → ℕ → List ℕ → List Check
+callChecks sup overhead flags sm pm counts = check 17 (tandemSound sup) ∷ frameChecks (tandemFrom sup) overhead flags sm pm counts
 
 -- the refusals but 17, by the frames that the open second holds
-unfoldable pub refusalBy : ℕ → List ℕ → ℕ → ℕ → ℕ → ℕ
-refusalBy frames overhead flags sm pm =
+unfoldable pub refusalBy : ℕ → List ℕ → ℕ → ℕ → ℕ → List ℕ → ℕ
+refusalBy frames overhead flags sm pm counts =
     firstOf
     (check 1 (eqb (length overhead) 64)
     ∷ check 2 (leb flags 3)
-    ∷ check 3 (leb sm 8 && leb pm 8)
+    ∷ check 3 (leb sm 8 && leb pm 8 && lowTo 6 counts)
     ∷ check 4 (ltb frames 400000)
     ∷ [])
 
-unfoldable pub callRefusal : List ℕ → List ℕ → ℕ → ℕ → ℕ → ℕ
-callRefusal sup overhead flags sm pm = firstOf (callChecks sup overhead flags sm pm)
+unfoldable pub callRefusal : List ℕ → List ℕ → ℕ → ℕ → ℕ → List ℕ → ℕ
+callRefusal sup overhead flags sm pm counts = firstOf (callChecks sup overhead flags sm pm counts)
 
--- the bytes of a supervisor whose layers are those after a frame, and in which the frame is not yet filed
+-- the bytes of line, section and path whose layers are those after a frame, and in which the frame is not yet filed
 abbrev pub unfiled : Supervisor → Supervisor → List ℕ
 unfiled before after =
     (headBytes (lineHead after) ++ alignBytes (after .layers .align))
     ++ (flat (countsOf (before .second)) ++ (heldBytes (sectionHeld after) ++ (heldBytes (pathHeld after) ++ [])))
 
-unfoldable pub callAnswer : List ℕ → List ℕ → ℕ → ℕ → ℕ → ℕ
-callAnswer sup overhead flags sm pm =
-    let refusal : ℕ = callRefusal sup overhead flags sm pm in
-    unless refusal (reportWord (reportOf (standsAfter (loadOf sup) overhead flags) sm pm)) refusal
+-- a frame in line, section and path: what stands after it or its report, and the multiframe, which the levels take
+abbrev pub layeredOf : Supervisor → List ℕ → ℕ → ℕ → ℕ → Layered
+layeredOf s overhead flags sm pm = record { standing = standsAfter s overhead flags; multi = frameOf s overhead flags sm pm .layers .align .multi }
 
-unfoldable pub callSup : List ℕ → List ℕ → ℕ → ℕ → ℕ → List ℕ
-callSup sup overhead flags sm pm = unless (callRefusal sup overhead flags sm pm) (bytesOf (frameOf (loadOf sup) overhead flags sm pm)) sup
+abbrev pub reportedOf : Supervisor → List ℕ → ℕ → ℕ → ℕ → Reported
+reportedOf s overhead flags sm pm =
+    record { report = reportOf (standsAfter s overhead flags) sm pm; multi = frameOf s overhead flags sm pm .layers .align .multi }
 
-pub record StepCall (sup overhead : List ℕ) (flags sm pm r : ℕ) (after : List ℕ) : Type 0 where
-  pub answers : r ≡ callAnswer sup overhead flags sm pm
-  pub holds : after ≡ callSup sup overhead flags sm pm
+unfoldable pub callAnswer : List ℕ → List ℕ → ℕ → ℕ → ℕ → List ℕ → ℕ
+callAnswer sup overhead flags sm pm counts =
+    let refusal : ℕ = callRefusal sup overhead flags sm pm counts in
+    unless refusal (reportWord (framedOf (tandemFrom sup) overhead flags sm pm counts .report)) refusal
 
--- otn_mark: 17, then 4; the closed second's twenty figures, as words, go into the record as far as it has room
+unfoldable pub callSup : List ℕ → List ℕ → ℕ → ℕ → ℕ → List ℕ → List ℕ
+callSup sup overhead flags sm pm counts =
+    unless (callRefusal sup overhead flags sm pm counts) (tandemBytes (framedOf (tandemFrom sup) overhead flags sm pm counts .tandem)) sup
+
+pub record StepCall (sup overhead : List ℕ) (flags sm pm : ℕ) (counts : List ℕ) (r : ℕ) (after : List ℕ) : Type 0 where
+  pub answers : r ≡ callAnswer sup overhead flags sm pm counts
+  pub holds : after ≡ callSup sup overhead flags sm pm counts
+
+-- otn_mark: 17, then 4; the closed second's forty-four figures, as words, go into the record as far as it has room
 abbrev pub markChecks : List ℕ → List Check
-markChecks sup = check 17 (sound sup) ∷ check 4 (ltb (loadOf sup .seconds) 4294967295) ∷ []
+markChecks sup = check 17 (tandemSound sup) ∷ check 4 (ltb (tandemFrom sup .base .seconds) 4294967295) ∷ []
 
 unfoldable pub markRefusal : List ℕ → ℕ
 markRefusal sup = firstOf (markChecks sup)
 
 unfoldable pub markSup : List ℕ → List ℕ
-markSup sup = unless (markRefusal sup) (bytesOf (nextSecond (loadOf sup))) sup
+markSup sup = unless (markRefusal sup) (tandemBytes (markedOf (tandemFrom sup) .tandem)) sup
 
+-- the twenty of line, section and path
 abbrev pub figuresAt : Supervisor → List ℕ
 figuresAt s = figuresOf (s .seconds + 1) (closedOf (s .second))
 
 unfoldable pub markRecord : List ℕ → List ℕ → List ℕ
-markRecord sup out = unless (markRefusal sup) (poured out (flat (figuresAt (loadOf sup)))) out
+markRecord sup out = unless (markRefusal sup) (poured out (flat (markedOf (tandemFrom sup) .figures))) out
 
 pub record MarkCall (sup out : List ℕ) (r : ℕ) (after filled : List ℕ) : Type 0 where
   pub answers : r ≡ markRefusal sup
@@ -127,18 +166,61 @@ pub record MarkCall (sup out : List ℕ) (r : ℕ) (after filled : List ℕ) : T
 -- otn_trace: 17, then 11 to 13; the supervisor is only read
 abbrev pub traceChecks : List ℕ → ℕ → List ℕ → List Check
 traceChecks sup layer out =
-    check 17 (sound sup)
+    check 17 (tandemSound sup)
     ∷ check 11 (leb layer 1)
     ∷ check 12 (eqb (length out) 64)
-    ∷ check 13 (layerAt (loadOf sup) layer .known)
+    ∷ check 13 (layerAt (tandemFrom sup .base) layer .known)
     ∷ []
 
 unfoldable pub traceRefused : List ℕ → ℕ → List ℕ → ℕ
 traceRefused sup layer out = firstOf (traceChecks sup layer out)
 
 unfoldable pub traceOut : List ℕ → ℕ → List ℕ → List ℕ
-traceOut sup layer out = unless (traceRefused sup layer out) (layerAt (loadOf sup) layer .accepted) out
+traceOut sup layer out = unless (traceRefused sup layer out) (layerAt (tandemFrom sup .base) layer .accepted) out
 
 pub record TraceCall (sup : List ℕ) (layer : ℕ) (out : List ℕ) (r : ℕ) (after : List ℕ) : Type 0 where
   pub answers : r ≡ traceRefused sup layer out
   pub holds : after ≡ traceOut sup layer out
+
+-- otn_level_report: 17, then 18; what is told of level n stands above the low byte, nothing of one that is not provisioned. The supervisor is only read.
+abbrev pub toldChecks : List ℕ → ℕ → List Check
+toldChecks sup n = check 17 (tandemSound sup) ∷ check 18 (isLevel n) ∷ []
+
+unfoldable pub toldRefusal : List ℕ → ℕ → ℕ
+toldRefusal sup n = firstOf (toldChecks sup n)
+
+abbrev pub toldWord : LevelReport → ℕ
+toldWord a = levelWord (a .given) (a .stands) (a .actions) (a .causes)
+
+-- whether TIM acts by a layer's record
+abbrev pub actsIn : Held → Bool
+actsIn h = timActs (timOf (layerFrom h) (h .front .mode) (h .names)) (h .front .disabled)
+
+unfoldable pub toldAnswer : List ℕ → ℕ → ℕ
+toldAnswer sup n =
+    let refusal : ℕ = toldRefusal sup n in
+    unless refusal (toldWord (levelReport (tandemFrom sup) n)) refusal
+
+pub record LevelReportCall (sup : List ℕ) (n r : ℕ) : Type 0 where
+  pub answers : r ≡ toldAnswer sup n
+
+-- otn_level_trace: 17, then 12 and 13: one that is not provisioned, or is none of the six, has no accepted trace. The supervisor is only read.
+abbrev pub tracedAt : List ℕ → ℕ → Level
+tracedAt sup n = levelAt (tandemFrom sup .levels) n
+
+abbrev pub levelTraceChecks : List ℕ → ℕ → List ℕ → List Check
+levelTraceChecks sup n out =
+    check 17 (tandemSound sup)
+    ∷ check 12 (eqb (length out) 64)
+    ∷ check 13 (tracedAt sup n .given && tracedAt sup n .state .layer .known)
+    ∷ []
+
+unfoldable pub levelTraceRefused : List ℕ → ℕ → List ℕ → ℕ
+levelTraceRefused sup n out = firstOf (levelTraceChecks sup n out)
+
+unfoldable pub levelTraceOut : List ℕ → ℕ → List ℕ → List ℕ
+levelTraceOut sup n out = unless (levelTraceRefused sup n out) (levelTraced (tandemFrom sup) n .trace) out
+
+pub record LevelTraceCall (sup : List ℕ) (n : ℕ) (out : List ℕ) (r : ℕ) (after : List ℕ) : Type 0 where
+  pub answers : r ≡ levelTraceRefused sup n out
+  pub holds : after ≡ levelTraceOut sup n out

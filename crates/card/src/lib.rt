@@ -1,7 +1,11 @@
 // The calls of the line card's C firmware, on numbers and lent bytes: each tests, refuses, and then works part by part in the supervisor's
-// bytes. include/otn.h documents them for C.
+// bytes, 688 of line, section and path and 1760 of six tandem levels. include/otn.h documents them for C.
+use alignment::Multi;
 use answer::checked;
+use causes::Report;
 use causes::Standing;
+use filter::Filter;
+use layer::Layer;
 use numbers::Head;
 use second::Frames;
 use second::Second;
@@ -9,15 +13,32 @@ use settings::Request;
 use supervisor::Supervisor;
 ghost use mathlib.Core.Path.{_≡_};
 ghost use mathlib.Core.Bool.{true, cond};
+ghost use mathlib.Core.List.{[], _∷_};
 ghost use Prim.Native.Nat.{_+_, _≤_};
 ghost use lib.Dec.{eqb};
-ghost use lib.ListN.{length};
+ghost use lib.ListN.{length, replicate};
+ghost use Rattle.words.specs.Words.{flat};
 ghost use Rattle.ranges.specs.Sound.{sound};
-ghost use Rattle.causes.specs.Causes.{reportOf};
-ghost use Rattle.supervisor.specs.Supervisor.{standsAfter, frameOf, nextSecond};
-ghost use Rattle.word.specs.Report.{reportWord};
+ghost use Rattle.supervisor.specs.Supervisor.{frameOf, nextSecond};
 ghost use Rattle.image.specs.Image.{loadOf, bytesOf};
-ghost use Rattle.card.specs.Calls.{provisionBy, FreshCall, refusalBy, unfiled, StepCall, figuresAt, MarkCall, TraceCall};
+ghost use Rattle.numbers.specs.Held.{heldIn};
+ghost use Rattle.word.specs.Report.{reportWord};
+ghost use Rattle.tandem.specs.Levels.{lowTo};
+ghost use Rattle.tandem.specs.Tandem.{freshTandem, giveRefusal, withLevel, frameRefusal, framedOf, markedOf, ssfNow, levelReport};
+ghost use Rattle.bays.specs.Image.{tandemBytes, tandemFrom, tandemSound};
+ghost use Rattle.card.specs.Calls.{provisionBy, FreshCall, requestBy, LevelCall, refusalBy, unfiled, layeredOf, reportedOf, StepCall, figuresAt, MarkCall, TraceCall, actsIn, toldWord, LevelReportCall, LevelTraceCall};
+
+// A frame in line, section and path: what stands after it, and the multiframe, which the levels take.
+struct Layered {
+    standing: Standing,
+    multi: Multi,
+}
+
+// The same with its report.
+struct Reported {
+    report: Report,
+    multi: Multi,
+}
 
 fn wide(x: u8) -> u64
     ensures { λ r. ⌜ r ≡ x ⌝ }
@@ -25,12 +46,25 @@ fn wide(x: u8) -> u64
     x as u64
 }
 
-// 688 lent bytes, lent on under that length, become the image of a supervisor.
-fn store(b: &mut [u8], s: Supervisor)
-    requires { ⌜ length (now b) ≡ 688 ⌝ }
-    ensures { λ _. ⌜ now (b .exit) ≡ bytesOf s ⌝ }
+// Whether lent bytes are a supervisor's: their length, and each number within its range.
+fn is_tandem(sup: &[u8]) -> bool
+    ensures { λ r. ⌜ r ≡ tandemSound (now (sup .entry)) ⌝ }
 {
-    image::lay(&mut b[0..688], s);
+    if sup.len() == 2448 {
+        let base = ranges::is_sound(&sup[0..688]);
+        let levels = bay::is_bay(&sup[688..2448]);
+        return base & levels;
+    }
+    false
+}
+
+// 2448 lent bytes become the image of a supervisor with no level provisioned.
+fn store(sup: &mut [u8], s: Supervisor)
+    requires { ⌜ length (now sup) ≡ 2448 ⌝ }
+    ensures { λ _. ⌜ now (sup .exit) ≡ tandemBytes (freshTandem s) ⌝ }
+{
+    image::lay(&mut sup[0..688], s);
+    bay::lay_bay(&mut sup[688..2448]);
 }
 
 // A fresh supervisor under a provisioning.
@@ -51,7 +85,7 @@ pub extern "C" fn otn_fresh(
 ) -> u64
     ensures { λ r. ⌜ FreshCall (now (sup .entry)) (provisionBy k smthr smdegm pmthr pmdegm smmode pmmode smdis pmdis (now (smnames .entry)) (now (pmnames .entry))) r (now (sup .exit)) ⌝ }
 {
-    if sup.len() == 688 {
+    if sup.len() == 2448 {
         let section = Request {
             thr: smthr,
             degm: smdegm,
@@ -75,23 +109,95 @@ pub extern "C" fn otn_fresh(
     17
 }
 
-// The refusal of a frame where the open second holds so many, 0 where it is accepted.
-fn step_refusal(frames: u32, overhead: &[u8], flags: u8, sm: u8, pm: u8) -> u8
-    ensures { λ r. ⌜ r ≡ refusalBy frames (now (overhead .entry)) flags sm pm ⌝ }
+// The refusal of a level's provisioning, 0 where it is accepted.
+fn level_refusal(sup: &[u8], n: u8, r: Request, names: &[u8]) -> u8
+    requires { ⌜ length (now sup) ≡ 2448 ⌝ }
+    requires { ⌜ tandemSound (now sup) ≡ true ⌝ }
+    ensures { λ x. ⌜ x ≡ giveRefusal (tandemFrom (now (sup .entry))) n r (now (names .entry)) ⌝ }
 {
+    let w = codec::strip_in(&sup[0..688], 0);
+    let head = numbers::head_in(w);
+    let c = words::words_in(&sup[0..688], 64);
+    let given = bay::given_at(&sup[688..2448], n);
+    let begun = (0 < head.seconds) | (0 < c[0]);
+    let six = settings::settings_refusal(head.k, r, r, names, names);
+    let eighteen = checked(18, (1 <= n) & (n <= 6) & !given, 0);
+    let sixteen = checked(16, !begun, eighteen);
+    checked(six, six == 0, sixteen)
+}
+
+// Level n provisioned in sound bytes.
+fn level_in(sup: &mut [u8], n: u8, r: Request, names: &[u8])
+    requires { ⌜ length (now sup) ≡ 2448 ⌝ }
+    requires { ⌜ tandemSound (now sup) ≡ true ⌝ }
+    requires { ⌜ length (now names) ≡ 32 ⌝ }
+    ensures { λ _. ⌜ now (sup .exit) ≡ tandemBytes (withLevel (tandemFrom (now (sup .entry))) n r (now (names .entry))) ⌝ }
+{
+    let kept = codec::strip_in(names, 0);
+    let options = settings::options_of(r, kept);
+    bay::give_at(&mut sup[688..2448], n, options);
+}
+
+// A tandem level under a provisioning.
+#[no_mangle]
+pub extern "C" fn otn_level(
+    sup: &mut [u8],
+    level: u8,
+    thr: u32,
+    degm: u8,
+    mode: u8,
+    dis: u8,
+    names: &[u8],
+) -> u64
+    ensures { λ r. ⌜ LevelCall (now (sup .entry)) level (requestBy thr degm mode dis) (now (names .entry)) r (now (sup .exit)) ⌝ }
+{
+    if is_tandem(sup) {
+        let request = Request {
+            thr: thr,
+            degm: degm,
+            mode: mode,
+            dis: dis,
+        };
+        let refusal = level_refusal(sup, level, request, names);
+        if refusal == 0 {
+            level_in(sup, level, request, names);
+            return 0;
+        }
+        return wide(refusal);
+    }
+    17
+}
+
+// Each of the six counts is at most 8.
+fn all_low(counts: [u8; 6]) -> bool
+    ensures { λ r. ⌜ r ≡ lowTo 6 counts ⌝ }
+{
+    (counts[0] <= 8)
+        & (counts[1] <= 8)
+        & (counts[2] <= 8)
+        & (counts[3] <= 8)
+        & (counts[4] <= 8)
+        & (counts[5] <= 8)
+}
+
+// The refusal of a frame where the open second holds so many, 0 where it is accepted.
+fn step_refusal(frames: u32, overhead: &[u8], flags: u8, sm: u8, pm: u8, counts: [u8; 6]) -> u8
+    ensures { λ r. ⌜ r ≡ refusalBy frames (now (overhead .entry)) flags sm pm counts ⌝ }
+{
+    let low = all_low(counts);
     let four = checked(4, frames < 400000, 0);
-    let three = checked(3, (sm <= 8) & (pm <= 8), four);
+    let three = checked(3, (sm <= 8) & (pm <= 8) & low, four);
     let two = checked(2, flags <= 3, three);
     checked(1, overhead.len() == 64, two)
 }
 
 // The layers of sound bytes after an accepted frame, in order: alignment, then the section, then the path. What stands then. The overhead is lent
 // on under its length, so that no byte of it is tested for being there.
-fn layers_in(sup: &mut [u8], overhead: &[u8], flags: u8, sm: u8, pm: u8) -> Standing
+fn layers_in(sup: &mut [u8], overhead: &[u8], flags: u8, sm: u8, pm: u8) -> Layered
     requires { ⌜ length (now sup) ≡ 688 ⌝ }
     requires { ⌜ sound (now sup) ≡ true ⌝ }
     requires { ⌜ length (now overhead) ≡ 64 ⌝ }
-    ensures { λ r. ⌜ (r ≡ standsAfter (loadOf (now (sup .entry))) (now (overhead .entry)) flags) × (now (sup .exit) ≡ unfiled (loadOf (now (sup .entry))) (frameOf (loadOf (now (sup .entry))) (now (overhead .entry)) flags sm pm)) ⌝ }
+    ensures { λ r. ⌜ (r ≡ layeredOf (loadOf (now (sup .entry))) (now (overhead .entry)) flags sm pm) × (now (sup .exit) ≡ unfiled (loadOf (now (sup .entry))) (frameOf (loadOf (now (sup .entry))) (now (overhead .entry)) flags sm pm)) ⌝ }
 {
     let o = overhead::overhead_of(&overhead[0..64]);
     let sf = o.section;
@@ -103,43 +209,100 @@ fn layers_in(sup: &mut [u8], overhead: &[u8], flags: u8, sm: u8, pm: u8) -> Stan
     let section = place::section_at(&mut sup[112..400], ssf, multi, sf, sm);
     let acts = causes::tim_acts(section.tim, section.disabled);
     let path = place::path_at(&mut sup[400..688], ssf | acts, multi, pf, pm);
-    Standing {
-        line: line,
-        section: section,
-        path: path,
+    Layered {
+        standing: Standing {
+            line: line,
+            section: section,
+            path: path,
+        },
+        multi: multi,
     }
 }
 
-// An accepted frame in sound bytes: its layers, and the frame is filed under its head.
-fn step_in(sup: &mut [u8], overhead: &[u8], flags: u8, sm: u8, pm: u8) -> u64
+// An accepted frame in sound bytes of line, section and path: their layers, and the frame is filed under its head.
+fn step_in(sup: &mut [u8], overhead: &[u8], flags: u8, sm: u8, pm: u8) -> Reported
     requires { ⌜ length (now sup) ≡ 688 ⌝ }
     requires { ⌜ sound (now sup) ≡ true ⌝ }
     requires { ⌜ length (now overhead) ≡ 64 ⌝ }
-    ensures { λ r. ⌜ (r ≡ reportWord (reportOf (standsAfter (loadOf (now (sup .entry))) (now (overhead .entry)) flags) sm pm)) × (now (sup .exit) ≡ bytesOf (frameOf (loadOf (now (sup .entry))) (now (overhead .entry)) flags sm pm)) ⌝ }
+    ensures { λ r. ⌜ (r ≡ reportedOf (loadOf (now (sup .entry))) (now (overhead .entry)) flags sm pm) × (now (sup .exit) ≡ bytesOf (frameOf (loadOf (now (sup .entry))) (now (overhead .entry)) flags sm pm)) ⌝ }
 {
-    let stands = layers_in(sup, overhead, flags, sm, pm);
-    let report = causes::report_of(stands, sm, pm);
+    let a = layers_in(sup, overhead, flags, sm, pm);
+    let standing = a.standing;
+    let multi = a.multi;
+    let report = causes::report_of(standing, sm, pm);
     place::tally_at(&mut sup[64..112], report.head);
+    Reported {
+        report: report,
+        multi: multi,
+    }
+}
+
+// An accepted frame in sound bytes: line, section and path, then the levels by the path's SSF.
+fn frame_in(sup: &mut [u8], overhead: &[u8], flags: u8, sm: u8, pm: u8, counts: [u8; 6]) -> u64
+    requires { ⌜ length (now sup) ≡ 2448 ⌝ }
+    requires { ⌜ tandemSound (now sup) ≡ true ⌝ }
+    requires { ⌜ length (now overhead) ≡ 64 ⌝ }
+    requires { ⌜ frameRefusal (tandemFrom (now sup)) (now overhead) flags sm pm counts ≡ 0 ⌝ }
+    ensures { λ r. ⌜ (r ≡ reportWord (framedOf (tandemFrom (now (sup .entry))) (now (overhead .entry)) flags sm pm counts .report)) × (now (sup .exit) ≡ tandemBytes (framedOf (tandemFrom (now (sup .entry))) (now (overhead .entry)) flags sm pm counts .tandem)) ⌝ }
+{
+    let a = step_in(&mut sup[0..688], overhead, flags, sm, pm);
+    let report = a.report;
+    let multi = a.multi;
+    bay::frame_at(
+        &mut sup[688..2448],
+        flags,
+        report.path.ssf,
+        multi,
+        &overhead[0..64],
+        counts,
+    );
     word::report_word(report)
 }
 
-// One frame.
-#[no_mangle]
-pub extern "C" fn otn_step(sup: &mut [u8], overhead: &[u8], flags: u8, sm: u8, pm: u8) -> u64
-    ensures { λ r. ⌜ StepCall (now (sup .entry)) (now (overhead .entry)) flags sm pm r (now (sup .exit)) ⌝ }
+// One frame, with the violation counts of levels 1 to 6.
+fn step_with(sup: &mut [u8], overhead: &[u8], flags: u8, sm: u8, pm: u8, counts: [u8; 6]) -> u64
+    ensures { λ r. ⌜ StepCall (now (sup .entry)) (now (overhead .entry)) flags sm pm counts r (now (sup .exit)) ⌝ }
 {
-    if ranges::is_sound(sup) {
-        let c = words::words_in(sup, 64);
-        let refusal = step_refusal(c[0], overhead, flags, sm, pm);
+    if is_tandem(sup) {
+        let c = words::words_in(&sup[0..688], 64);
+        let refusal = step_refusal(c[0], overhead, flags, sm, pm, counts);
         if refusal == 0 {
-            return step_in(sup, overhead, flags, sm, pm);
+            return frame_in(sup, overhead, flags, sm, pm, counts);
         }
         return wide(refusal);
     }
     17
 }
 
-// An accepted mark in sound bytes: each layer closed, and the next second opened under its number; the figures of the closed one.
+// One frame in which no level has a violation.
+#[no_mangle]
+pub extern "C" fn otn_step(sup: &mut [u8], overhead: &[u8], flags: u8, sm: u8, pm: u8) -> u64
+    ensures { λ r. ⌜ StepCall (now (sup .entry)) (now (overhead .entry)) flags sm pm (replicate 6 0) r (now (sup .exit)) ⌝ }
+{
+    step_with(sup, overhead, flags, sm, pm, [0; 6])
+}
+
+// One frame; `t1` to `t6` are the violation counts of levels 1 to 6.
+#[no_mangle]
+pub extern "C" fn otn_step_levels(
+    sup: &mut [u8],
+    overhead: &[u8],
+    flags: u8,
+    sm: u8,
+    pm: u8,
+    t1: u8,
+    t2: u8,
+    t3: u8,
+    t4: u8,
+    t5: u8,
+    t6: u8,
+) -> u64
+    ensures { λ r. ⌜ StepCall (now (sup .entry)) (now (overhead .entry)) flags sm pm (t1 ∷ t2 ∷ t3 ∷ t4 ∷ t5 ∷ t6 ∷ []) r (now (sup .exit)) ⌝ }
+{
+    step_with(sup, overhead, flags, sm, pm, [t1, t2, t3, t4, t5, t6])
+}
+
+// An accepted mark in sound bytes of line, section and path: each layer closed, and the next second opened under its number; the figures of the closed one.
 fn mark_in(sup: &mut [u8], k: u8, number: u32) -> [u32; 20]
     requires { ⌜ length (now sup) ≡ 688 ⌝ }
     requires { ⌜ sound (now sup) ≡ true ⌝ }
@@ -166,18 +329,31 @@ fn mark_in(sup: &mut [u8], k: u8, number: u32) -> [u32; 20]
     second::figures(number, done)
 }
 
+// An accepted mark in sound bytes: line, section and path, then each level; the record of the closed second.
+fn close_in(sup: &mut [u8], k: u8, number: u32) -> [u8; 176]
+    requires { ⌜ length (now sup) ≡ 2448 ⌝ }
+    requires { ⌜ tandemSound (now sup) ≡ true ⌝ }
+    requires { ⌜ k ≡ tandemFrom (now sup) .base .settings .k ⌝ }
+    requires { ⌜ number ≡ tandemFrom (now sup) .base .seconds + 1 ⌝ }
+    requires { ⌜ number ≤ 4294967295 ⌝ }
+    ensures { λ r. ⌜ (r ≡ flat (markedOf (tandemFrom (now (sup .entry))) .figures)) × (now (sup .exit) ≡ tandemBytes (markedOf (tandemFrom (now (sup .entry))) .tandem)) ⌝ }
+{
+    let base = mark_in(&mut sup[0..688], k, number);
+    let levels = bay::mark_at(&mut sup[688..2448]);
+    words::record_of(base, levels)
+}
+
 // A mark: the closed second goes into the record.
 #[no_mangle]
 pub extern "C" fn otn_mark(sup: &mut [u8], out: &mut [u8]) -> u64
     ensures { λ r. ⌜ MarkCall (now (sup .entry)) (now (out .entry)) r (now (sup .exit)) (now (out .exit)) ⌝ }
 {
-    if ranges::is_sound(sup) {
-        let w = codec::strip_in(sup, 0);
+    if is_tandem(sup) {
+        let w = codec::strip_in(&sup[0..688], 0);
         let head = numbers::head_in(w);
         if head.seconds < 4294967295 {
             let number = head.seconds + 1;
-            let figures = mark_in(sup, head.k, number);
-            let bytes = words::record_of(figures);
+            let bytes = close_in(sup, head.k, number);
             codec::pour(out, &bytes);
             return 0;
         }
@@ -201,7 +377,7 @@ fn record_at(layer: u8) -> u32
 pub extern "C" fn otn_trace(sup: &[u8], layer: u8, out: &mut [u8]) -> u64
     ensures { λ r. ⌜ TraceCall (now (sup .entry)) layer (now (out .entry)) r (now (out .exit)) ⌝ }
 {
-    if ranges::is_sound(sup) {
+    if is_tandem(sup) {
         let at = record_at(layer);
         let w = codec::strip_in(sup, at + 32);
         let state = numbers::state_in(w);
@@ -210,6 +386,93 @@ pub extern "C" fn otn_trace(sup: &[u8], layer: u8, out: &mut [u8]) -> u64
         let refusal = checked(11, layer <= 1, twelve);
         if refusal == 0 {
             let trace = codec::band_in(sup, at + 64);
+            codec::pour(out, &trace);
+            return 0;
+        }
+        return wide(refusal);
+    }
+    17
+}
+
+// Whether TIM acts by a layer's record. The cycle being gathered, the one before it and the filters have no part in it.
+fn acts_in(r: &[u8]) -> bool
+    ensures { λ x. ⌜ x ≡ actsIn (heldIn (now (r .entry))) ⌝ }
+{
+    let w = codec::strip_in(r, 0);
+    let v = codec::strip_in(r, 32);
+    let front = numbers::front_in(w);
+    let state = numbers::state_in(v);
+    let accepted = codec::band_in(r, 64);
+    let names = codec::strip_in(r, 256);
+    let layer = Layer {
+        accepted: accepted,
+        gathered: [0; 64],
+        previous: [0; 64],
+        known: state.known,
+        gathering: false,
+        equal: 0,
+        bdi: Filter { on: false, run: 0 },
+        deg: Filter { on: false, run: 0 },
+    };
+    let tim = layer::tim(layer, front.mode, names);
+    causes::tim_acts(tim, front.disabled)
+}
+
+// The path's SSF as it stands in the bytes of line, section and path, by the flags of the last frame.
+fn ssf_in(sup: &[u8], flags: u8) -> bool
+    requires { ⌜ length (now sup) ≡ 688 ⌝ }
+    ensures { λ r. ⌜ r ≡ ssfNow (loadOf (now (sup .entry))) flags ⌝ }
+{
+    let w = codec::strip_in(sup, 0);
+    let v = codec::strip_in(sup, 32);
+    let head = numbers::head_in(w);
+    let align = numbers::align_in(v);
+    let n = alignment::frames_of(head.k);
+    let line = frame::line_of(align, n, flags);
+    let ssf = causes::ssf_of(line);
+    let acts = acts_in(&sup[112..400]);
+    ssf | acts
+}
+
+// What is told of level n in sound bytes.
+fn told_in(sup: &[u8], n: u8) -> u64
+    requires { ⌜ length (now sup) ≡ 2448 ⌝ }
+    requires { ⌜ tandemSound (now sup) ≡ true ⌝ }
+    ensures { λ r. ⌜ r ≡ toldWord (levelReport (tandemFrom (now (sup .entry))) n) ⌝ }
+{
+    let ssf = ssf_in(&sup[0..688], sup[688]);
+    let given = bay::given_at(&sup[688..2448], n);
+    let stands = bay::stands_at(&sup[688..2448], n, ssf);
+    let actions = level::level_actions(stands);
+    let causes = level::level_causes(stands);
+    word::level_word(given, stands, actions, causes)
+}
+
+// What stands of a tandem level after the last frame and mark.
+#[no_mangle]
+pub extern "C" fn otn_level_report(sup: &[u8], level: u8) -> u64
+    ensures { λ r. ⌜ LevelReportCall (now (sup .entry)) level r ⌝ }
+{
+    if is_tandem(sup) {
+        let refusal = checked(18, (1 <= level) & (level <= 6), 0);
+        if refusal == 0 {
+            return told_in(sup, level);
+        }
+        return wide(refusal);
+    }
+    17
+}
+
+// The accepted trace of a tandem level.
+#[no_mangle]
+pub extern "C" fn otn_level_trace(sup: &[u8], level: u8, out: &mut [u8]) -> u64
+    ensures { λ r. ⌜ LevelTraceCall (now (sup .entry)) level (now (out .entry)) r (now (out .exit)) ⌝ }
+{
+    if is_tandem(sup) {
+        let traced = bay::trace_at(&sup[688..2448], level);
+        let refusal = checked(12, out.len() == 64, traced.refusal);
+        if refusal == 0 {
+            let trace = traced.trace;
             codec::pour(out, &trace);
             return 0;
         }

@@ -1,4 +1,5 @@
 pub mod Example
+pub mod Levels
 pub mod Lines
 pub mod Readable
 pub mod Refuted

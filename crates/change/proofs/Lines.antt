@@ -26,10 +26,10 @@ nothing second frame total before after d at room e =
 
 -- something changed: the line is put
 pub something : {n : ℕ} (second frame total : ℕ) (before after : Shown) (at r : ℕ) (d o : List ℕ) → (length (allChanges before after) ≡ 0 → ⊥)
-    → 1024 ≤ length d - at → Wrote n d at r o (frameLine second frame total (allChanges before after))
-    → (r ≡ at + length (fitted (length d) at 1024 (changeLine second frame total before after)))
-    × (o ≡ over d at (fitted (length d) at 1024 (changeLine second frame total before after)))
+    → 2560 ≤ length d - at → Wrote n d at r o (frameLine second frame total (allChanges before after))
+    → (r ≡ at + length (fitted (length d) at 2560 (changeLine second frame total before after)))
+    × (o ≡ over d at (fitted (length d) at 2560 (changeLine second frame total before after)))
 unfolding changeLine
 something second frame total before after at r d o e h x =
     rw (ne-eqb (length (allChanges before after)) 0 e)
-    (wrote-fits 1024 h x)
+    (wrote-fits 2560 h x)

@@ -15,9 +15,13 @@ use Rattle.causes.specs.declared.Report.{Report}
 use Rattle.causes.specs.Causes.{ssfOf, timActs, headOf, reportOf, nothingStands, noReport}
 use Rattle.listing.specs.Bytes.{bytes}
 use Rattle.listing.specs.Text.{fitted}
-use Rattle.conditions.specs.Conditions.{conditions, changeOf, changesOf, conditionChanges}
+use Rattle.level.specs.declared.LevelStands.{LevelStands}
+use Rattle.level.specs.declared.Status.the-variants as status
+use Rattle.conditions.specs.Conditions.{conditions, changeOf, changesOf, conditionChanges, levelWords, under, levelChanges}
 use Rattle.conditions.proofs.put_conditions.Kinds as kinds
 use Rattle.conditions.proofs.put_conditions.Reads as reads
+use Rattle.conditions.proofs.put_level.Kinds as level-kinds
+use Rattle.conditions.proofs.put_level.Reads as level-reads
 
 -- in frame, and nothing else
 abbrev inFrame : Report
@@ -63,4 +67,21 @@ pub standing-told : (κs : Lfts 1) (a : Dens κs kinds.ps) (s : AtExit (endedOf 
 unfolding fitted conditionChanges changesOf changeOf conditions reportOf headOf timActs ssfOf
 standing-told κs a s before after d at p =
     let h : _≡_ {A = ℕ} 4 0 = rw (before, after, d, at) at (p .0) in
+    omega arith
+
+-- of a level nothing stands, and the loss of its tandem connection
+abbrev calm : LevelStands
+calm = record { ssf = false; status = status.Clear; tim = false; disabled = false; bdi = false; iae = false; biae = false; deg = false }
+
+abbrev lost : LevelStands
+lost = record { ssf = false; status = status.Ltc; tim = false; disabled = false; bdi = false; iae = false; biae = false; deg = false }
+
+-- level 2 has the number 2: ` +TCM2.dLTC +TCM2.aTSF +TCM2.cLTC`
+pub level-from-0 : (κs : Lfts 1) (a : Dens κs level-kinds.ps) (r : ℕ) (s : AtExit (endedOf 1 level-kinds.ps level-kinds.r) κs)
+    → a .0 ≡ 2 → a .1 .0 ≡ calm → a .1 .1 .0 ≡ lost → now (a .1 .1 .1 .0) ≡ replicate 228 0 → a .1 .1 .1 .1 .0 ≡ 0
+    → now (s .1 .1 .1 .0) ≡ over (replicate 228 0) 0 (bytes " +TCM1.dLTC +TCM1.aTSF +TCM1.cLTC") → level-reads.Post κs a r s → ⊥
+unfolding fitted over levelChanges levelWords under changesOf changeOf timActs
+level-from-0 κs a r s n before after d at o p =
+    let e : now (s .1 .1 .1 .0) ≡ over (replicate 228 0) 0 (bytes " +TCM2.dLTC +TCM2.aTSF +TCM2.cLTC") = rw (n, before, after, d, at) at (p .1) in
+    let h : _≡_ {A = ℕ} 49 50 = ap (λ (l : List ℕ). getD l 5 0) (sym o ∙ e) in
     omega arith

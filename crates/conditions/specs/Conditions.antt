@@ -1,10 +1,12 @@
--- The named conditions of a report, and the text of those that changed, in G.798's names. Assumes nothing.
-use Prim.Native.Nat.{ℕ}
+-- The named conditions of a report and of a tandem level, and the text of those that changed, in G.798's names. Assumes nothing.
+use Prim.Native.Nat.{ℕ, _+_, _%_}
 use mathlib.Core.Bool.{Bool, cond}
 use mathlib.Core.List.{List, [], _∷_, _++_}
 use Prim.Native.String.{String}
 use Rattle.signal.specs.Signal.{isAis, isOci, isLck}
 use Rattle.causes.specs.declared.Report.{Report}
+use Rattle.level.specs.Level.{dAIS, dLTC, dOCI, dLCK, levelActions, levelCauses}
+use Rattle.level.specs.declared.LevelStands.{LevelStands}
 use Rattle.listing.specs.Bytes.{bytes}
 
 -- a condition: its name, and whether it stands
@@ -128,3 +130,48 @@ conditionChanges b a = changesOf (conditions b) (conditions a)
 -- the room that it is given: 38 conditions, each a blank, a sign and a name of eight bytes at most
 abbrev pub conditionRoom : ℕ
 conditionRoom = 380
+
+-- the conditions of a level without its number, in the order of the bits of `otn_level_report`: SSF and the defects, the actions, the fault causes
+unfoldable pub levelWords : LevelStands → List Named
+levelWords d =
+    named "SSF" (d .ssf)
+    ∷ named "dLTC" (dLTC d)
+    ∷ named "dAIS" (dAIS d)
+    ∷ named "dOCI" (dOCI d)
+    ∷ named "dLCK" (dLCK d)
+    ∷ named "dTIM" (d .tim)
+    ∷ named "dBDI" (d .bdi)
+    ∷ named "dIAE" (d .iae)
+    ∷ named "dBIAE" (d .biae)
+    ∷ named "dDEG" (d .deg)
+    ∷ named "aTSF" (levelActions d .tsf)
+    ∷ named "aTSD" (levelActions d .tsd)
+    ∷ named "cSSF" (levelCauses d .ssf)
+    ∷ named "cLTC" (levelCauses d .ltc)
+    ∷ named "cOCI" (levelCauses d .oci)
+    ∷ named "cLCK" (levelCauses d .lck)
+    ∷ named "cTIM" (levelCauses d .tim)
+    ∷ named "cDEG" (levelCauses d .deg)
+    ∷ named "cBDI" (levelCauses d .bdi)
+    ∷ []
+
+-- `TCM3.`: the levels have the numbers 1 to 6, and of any other the last digit stands
+abbrev pub levelPrefix : ℕ → List ℕ
+levelPrefix n = bytes "TCM" ++ ((48 + n % 10) ∷ bytes ".")
+
+-- a prefix to the name of each condition
+unfoldable pub under : List ℕ → List Named → List Named
+under p [] = []
+under p (x ∷ xs) = record { name = p ++ x .name; stands = x .stands } ∷ under p xs
+
+-- the conditions of level n: `TCM3.dLTC`
+abbrev pub levelConditions : ℕ → LevelStands → List Named
+levelConditions n d = under (levelPrefix n) (levelWords d)
+
+-- what changed among them
+unfoldable pub levelChanges : ℕ → LevelStands → LevelStands → List ℕ
+levelChanges n b a = changesOf (levelConditions n b) (levelConditions n a)
+
+-- the room that it is given: 19 conditions, each a blank, a sign and a name of ten bytes at most
+abbrev pub levelRoom : ℕ
+levelRoom = 228

@@ -1,7 +1,7 @@
 -- "Accepted values and defects" (document 01), in the order of a frame: alignment, section, path. Assumes nothing.
 use Prim.Native.Nat.{ℕ, _/_, _%_}
-use mathlib.Core.Bool.{Bool, _||_}
-use lib.Dec.{eqb}
+use mathlib.Core.Bool.{Bool, false, _||_}
+use lib.Dec.{leb, eqb}
 use Rattle.overhead.specs.declared.Field.{Field}
 use Rattle.overhead.specs.declared.Overhead.{Overhead}
 use Rattle.filter.specs.declared.Stat.{Stat}
@@ -11,7 +11,7 @@ use Rattle.alignment.specs.declared.Alignment.{Alignment}
 use Rattle.alignment.specs.declared.Multi.{Multi}
 use Rattle.alignment.specs.Alignment.{framesOf, alignOf, dLOF, dLOM, freshAlignment}
 use Rattle.layer.specs.declared.Layer.{Layer}
-use Rattle.layer.specs.Layer.{layerOf, timOf, freshLayer}
+use Rattle.layer.specs.Layer.{withDeg, layerOf, timOf, freshLayer}
 use Rattle.signal.specs.Signal.{standsFor, isAis}
 use Rattle.causes.specs.Causes.{ssfOf, timActs}
 use Rattle.causes.specs.declared.Line.{Line}
@@ -101,6 +101,11 @@ standingOf s l flags = record {
   section = sectionStands (l .section) (s .section);
   path = pathStands (l .path) (s .path);
 }
+
+-- "dDEG, decided at a mark: a second is bad if its near-end block count, after discard, is at least DEGThr. DEGM bad seconds in a
+-- row raise it, DEGM others clear it. SSF doesn't force it." (6.2.3.4, 6.2.3.5)
+abbrev pub degraded : Layer → Options → ℕ → Layer
+degraded l p near = withDeg l (filterOf (l .deg) (p .degm) false (leb (p .thr) near))
 
 -- a state together with what stands in it
 abbrev pub sectionFrame : SectionState → Options → Bool → Multi → Field → SectionFrame

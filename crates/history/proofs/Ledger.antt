@@ -128,12 +128,12 @@ sum-law c d f e r =
     let m : getD (c .heads) (headOf d) 0 ≤ sumOf (c .heads) = at-most-sum (c .heads) (headOf d) in
     rw (lt-ltb (headOf d) 10 h) (sum-at (c .heads) (headOf d) (omega arith) (omega arith))
 
-near-more : (n : Near) (more : Bool) → n .0 < 400000 → nearOf n more .0 ≡ n .0 + flag more
+pub near-more : (n : Near) (more : Bool) → n .0 < 400000 → nearOf n more .0 ≡ n .0 + flag more
 unfolding nearOf
 near-more n true r = up-plain (n .0) 400000 r
 near-more n false r = rw add-zero
 
-far-more : (n : Far) (more : Bool) → n .0 < 400000 → farOf n more .0 ≡ n .0 + flag more
+pub far-more : (n : Far) (more : Bool) → n .0 < 400000 → farOf n more .0 ≡ n .0 + flag more
 unfolding farOf
 far-more n true r = up-plain (n .0) 400000 r
 far-more n false r = rw add-zero

@@ -24,9 +24,9 @@ use Rattle.names.specs.Names.{sameTrace}
 use Rattle.layer.specs.Layer.{withTrace, equalOf, closedCycle, gatheredAt, byteOf, traceOf, layerOf, timOf, freshLayer}
 use Rattle.signal.specs.Signal.{standsFor, isAis}
 use Rattle.causes.specs.Causes.{ssfOf, timActs, headOf}
-use Rattle.frame.specs.Layers.{lineOf, sectionOf, sectionStands, pathOf, layersOf}
+use Rattle.frame.specs.Layers.{lineOf, sectionOf, sectionStands, pathOf, layersOf, degraded}
 use Rattle.second.specs.Second.{nearOf, farOf, oneFrame, oneUnder, blocksOf, sectionShows, pathShows, countOf, freshSecond}
-use Rattle.supervisor.specs.Supervisor.{freshOf, frameOf, standsAfter, degraded, nextSecond}
+use Rattle.supervisor.specs.Supervisor.{freshOf, frameOf, standsAfter, nextSecond}
 use Rattle.history.specs.Ranges.{AlignmentIn, LayerIn, SectionIn, PathIn, LayersIn, BlocksIn, AllAtMost, IsBytes, SecondIn, Ranged}
 use Rattle.causes.specs.declared.Standing.{Standing}
 use Rattle.second.specs.declared.Near.{Near}

@@ -1,10 +1,9 @@
 -- Laws of the image: its length, and that written piece by piece it is whole. Assumes nothing.
 use mathlib.Core.Path.{_≡_, refl, sym, ap, _∙_}
-use mathlib.Core.List.{List, [], _++_, append-nil, append-assoc}
+use mathlib.Core.List.{List, append-assoc}
 use Prim.Native.Nat.{ℕ, _+_}
 use native.Mathlib.Omega.{arith}
-use lib.ListN.{length, take, drop, drop-of-length-le}
-use lib.Seq.{take-all}
+use lib.ListN.{length}
 use Rattle.words.specs.Words.{flat}
 use Rattle.answer.specs.Over.{over}
 use Rattle.codec.specs.Over.{laid}
@@ -53,13 +52,6 @@ whole-image b s after h t =
     let whole : lays b 0 (piecesOf s) ≡ over b 0 (joined (piecesOf s)) = lays-over b 0 (piecesOf s) (sized s a) (omega arith) in
     let long : length (joined (piecesOf s)) ≡ length b = length-joined (piecesOf s) (sized s a) ∙ sym h in
     t .holds ∙ whole ∙ over-all b (joined (piecesOf s)) long ∙ joined-image s
-
--- written under their length, they are all of the bytes
-pub store-all : (b : List ℕ) (s : Supervisor) (x : List ℕ) → length b ≡ 688 → Stored (take 688 b) s x → x ++ drop 688 b ≡ bytesOf s
-store-all b s x h t =
-    let e : take 688 b ≡ b = take-all 688 b (omega arith) in
-    let k : drop 688 b ≡ [] = drop-of-length-le b {i = 688} (omega arith) in
-    ap (λ (r : List ℕ). x ++ r) k ∙ append-nil x ∙ whole-image (take 688 b) s x (ap length e ∙ h) t
 
 -- Pieces laid one after the other, by the lists between.
 

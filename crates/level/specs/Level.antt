@@ -10,9 +10,10 @@ use Rattle.filter.specs.Filter.{quiet, filterOf}
 use Rattle.filter.specs.Stat.{noStat, statOf}
 use Rattle.alignment.specs.declared.Multi.{Multi}
 use Rattle.layer.specs.declared.Layer.{Layer}
-use Rattle.layer.specs.Layer.{withDeg, layerOf, timOf, freshLayer}
+use Rattle.layer.specs.Layer.{layerOf, timOf, freshLayer}
 use Rattle.settings.specs.declared.Options.{Options}
 use Rattle.causes.specs.Causes.{timActs}
+use Rattle.frame.specs.Layers.{degraded}
 use Rattle.second.specs.declared.Blocks.{Blocks}
 use Rattle.second.specs.declared.Shows.{Shows}
 use Rattle.second.specs.Second.{blocksOf, discardOf, noBlocks}
@@ -118,7 +119,7 @@ levelClosed c = discardOf (c .blocks) (c .iae) (c .biae)
 -- others clear it." (document 01; 6.2.3.4, 14.5.1.1.3, note 1)
 unfoldable pub levelMarked : LevelState → Options → LevelSecond → LevelState
 levelMarked s p c = record {
-  layer = withDeg (s .layer) (filterOf (s .layer .deg) (p .degm) false (leb (p .thr) (levelClosed c .near .0)));
+  layer = degraded (s .layer) p (levelClosed c .near .0);
   stat = s .stat;
   biae = s .biae;
 }

@@ -4,7 +4,7 @@ use native.Mathlib.Omega.{arith}
 use mathlib.Core.Path.{_≡_, refl, _∙_, ap, sym}
 use mathlib.Core.Bool.{Bool, true, false}
 use mathlib.Core.List.{List, []}
-use lib.ListN.{length, getD}
+use lib.ListN.{length, getD, replicate}
 use lib.Dec.{leb}
 use denote.Ref.{now}
 use contract.Lifetimes.{Lfts}
@@ -12,16 +12,19 @@ use borrow.Fn.Kinds.{Dens, endedOf}
 use denote.Triple.Clauses.{AtExit}
 use Rattle.answer.specs.Over.{over}
 use Rattle.answer.proofs.Cond.{by-cond}
-use Rattle.listing.specs.Text.{fitted, decimalIn, spaced, fieldsOf}
+use Rattle.listing.specs.Text.{fitted, decimalIn, spaced, fieldsOf, textLine}
 use Rattle.listing.proofs.Overs.{fitted-is}
 use Rattle.names.specs.Names.{sameIn, sameTrace}
 use Rattle.causes.specs.Causes.{ssfOf, timActs, headOf, reportOf, nothingStands}
-use Rattle.conditions.specs.Conditions.{conditions, changeOf, changesOf, conditionChanges}
-use Rattle.change.specs.Change.{shownOf, headChange, printableOf, readableOf, toldOf, traceChange, allChanges, beginningOf, frameLine, changeLine}
+use Rattle.conditions.specs.Conditions.{conditions, changeOf, changesOf, conditionChanges, levelWords, under, levelChanges}
+use Rattle.change.specs.Change.{shownOf, headChange, printableOf, readableOf, toldOf, traceChange, levelsTo, levelSeen, standingChanges, traceChanges, beginningOf, frameLine, changeLine}
+use Rattle.tandem.specs.Levels.{givenGroups}
 use Rattle.trace.specs.declared.State.{State}
 use Rattle.trace.specs.Scan.{startOf}
 use Rattle.stream.specs.Stream.{change}
 use Rattle.lines.specs.Line.{lineFor, endingOf}
+use Rattle.lines.proofs.closed_line.Kinds as closed-kinds
+use Rattle.lines.proofs.closed_line.Reads as closed-reads
 use Rattle.lines.proofs.last_lines.Kinds as last-kinds
 use Rattle.lines.proofs.last_lines.Reads as last-reads
 use Rattle.lines.proofs.told_line.Kinds as told-kinds
@@ -31,6 +34,7 @@ use Rattle.lines.proofs.told_line.Reads as told-reads
 abbrev framed : State
 framed = record {
   begun = true;
+  kind = 1;
   sup = startOf .sup;
   last = startOf .last;
   standing = record {
@@ -38,13 +42,14 @@ framed = record {
     section = nothingStands .section;
     path = nothingStands .path;
   };
+  levels = startOf .levels;
 }
 
 abbrev End : Lfts 1 → Type 0
 End κs = AtExit (endedOf 1 told-kinds.ps told-kinds.r) κs
 
 same-state : lineFor (change 1 framed framed) ≡ []
-unfolding lineFor shownOf changeLine frameLine beginningOf allChanges conditionChanges conditions traceChange toldOf readableOf printableOf headChange changesOf changeOf fieldsOf spaced decimalIn reportOf headOf timActs ssfOf sameTrace sameIn
+unfolding lineFor shownOf changeLine frameLine beginningOf standingChanges traceChanges levelsTo levelSeen levelChanges levelWords under conditionChanges conditions traceChange toldOf readableOf printableOf headChange changesOf changeOf fieldsOf spaced decimalIn reportOf headOf timActs ssfOf sameTrace sameIn
 same-state = refl
 
 -- a record with which nothing changed puts no line, and no line end either
@@ -52,22 +57,30 @@ pub empty-line : (κs : Lfts 1) (a : Dens κs told-kinds.ps) (s : End κs) → t
 unfolding fitted
 empty-line κs a s p =
     let d : List ℕ = now (a .1 .1 .1 .0) in
-    let e : length (fitted (length d) 0 1024 (lineFor (change 1 framed framed))) ≡ 0 =
-    ap (λ (l : List ℕ). length (fitted (length d) 0 1024 l)) same-state ∙ by-cond (λ (l : List ℕ). length l ≡ 0) (leb 1024 (length d - 0)) (λ _. refl) (λ _. refl) in
+    let e : length (fitted (length d) 0 2560 (lineFor (change 1 framed framed))) ≡ 0 =
+    ap (λ (l : List ℕ). length (fitted (length d) 0 2560 l)) same-state ∙ by-cond (λ (l : List ℕ). length l ≡ 0) (leb 2560 (length d - 0)) (λ _. refl) (λ _. refl) in
     omega (arith, p .0, e)
 
 first-second : (d : List ℕ) → getD (over d 0 (lineFor (change 1 startOf framed))) 2 0 ≡ 49
-unfolding over lineFor shownOf changeLine frameLine beginningOf allChanges conditionChanges conditions traceChange toldOf readableOf printableOf headChange changesOf changeOf fieldsOf spaced decimalIn reportOf headOf timActs ssfOf sameTrace sameIn
+unfolding over lineFor shownOf changeLine frameLine beginningOf standingChanges traceChanges levelsTo levelSeen levelChanges levelWords under conditionChanges conditions traceChange toldOf readableOf printableOf headChange changesOf changeOf fieldsOf spaced decimalIn reportOf headOf timActs ssfOf sameTrace sameIn
 first-second d = refl
 
 -- the open second is counted from 1: a line that begins "F 0" is none
-pub second-from-0 : (κs : Lfts 1) (a : Dens κs told-kinds.ps) (x : ℕ) (s : End κs) → 1024 ≤ length (now (a .1 .1 .1 .0))
+pub second-from-0 : (κs : Lfts 1) (a : Dens κs told-kinds.ps) (x : ℕ) (s : End κs) → 2560 ≤ length (now (a .1 .1 .1 .0))
     → told-reads.Post κs (startOf, (framed, (1, (a .1 .1 .1 .0, (0, tt))))) x s → getD (now (s .1 .1 .1 .0)) 2 0 ≡ 48 → ⊥
 second-from-0 κs a x s h p z =
     let d : List ℕ = now (a .1 .1 .1 .0) in
     let l : List ℕ = lineFor (change 1 startOf framed) in
-    let f : fitted (length d) 0 1024 l ≡ l = fitted-is (length d) 0 1024 l (omega arith) in
+    let f : fitted (length d) 0 2560 l ≡ l = fitted-is (length d) 0 2560 l (omega arith) in
     let e : _≡_ {A = ℕ} 48 49 = sym z ∙ ap (λ (o : List ℕ). getD o 2 0) (p .2 ∙ ap (over d 0) f) ∙ first-second d in
+    omega arith
+
+-- closed_line: twenty figures of one digit make 42 bytes; with those of six levels that are not provisioned they would be 90
+pub all-listed : (κs : Lfts 1) (a : Dens κs closed-kinds.ps) (s : AtExit (endedOf 1 closed-kinds.ps closed-kinds.r) κs)
+    → a .0 ≡ startOf → now (a .1 .0) ≡ replicate 926 0 → a .1 .1 .0 ≡ 0 → closed-reads.Post κs a 90 s → ⊥
+unfolding fitted lineFor givenGroups textLine fieldsOf spaced decimalIn
+all-listed κs a s st d at p =
+    let h : _≡_ {A = ℕ} 90 42 = rw (st, d, at) at (p .0) in
     omega arith
 
 nothing-put : (long at : ℕ) (done : Bool) (refusal offset marks frames : ℕ) → done ≡ false → length (fitted long at 88 (endingOf done refusal offset marks frames)) ≡ 0

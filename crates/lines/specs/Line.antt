@@ -10,15 +10,15 @@ use Rattle.change.specs.Change.{shownOf, changeLine}
 use Rattle.trace.specs.declared.State.{State}
 use Rattle.stream.specs.Stream.{Note, second, change}
 
--- what a state shows: the report of what stands (its counts, which are the frame's own, left at 0) and the accepted traces
+-- what a state shows: the report of what stands (its counts, which are the frame's own, left at 0), what stands of the levels, and the accepted traces
 abbrev pub shownIn : State → Shown
-shownIn st = shownOf (st .sup) (reportOf (st .standing) 0 0)
+shownIn st = shownOf (st .sup) (reportOf (st .standing) 0 0) (st .levels)
 
 -- The line of what is told: of a closed second its figures; of a record what changed with it, under the open second and the frame's number there
 -- and in the trace.
 unfoldable pub lineFor : Note → List ℕ
 lineFor (second figures) = secondLine figures
-lineFor (change total was is) = changeLine (is .sup .seconds + 1) (is .sup .second .frames .0) total (shownIn was) (shownIn is)
+lineFor (change total was is) = changeLine (is .sup .base .seconds + 1) (is .sup .base .second .frames .0) total (shownIn was) (shownIn is)
 
 -- "A refusal prints `R`, its number and the record's byte offset, then E." "E: marks and frames accepted."
 unfoldable pub lastLines : ℕ → ℕ → ℕ → ℕ → List ℕ

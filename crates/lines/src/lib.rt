@@ -1,13 +1,13 @@
-// The line of a record that a scan told, from the states before and after it; and the last lines.
+// The line of a record that a scan told, from the states before and after it; of a second that it closed; and the last lines.
 use change::Shown;
 use trace::State;
 ghost use mathlib.Core.Path.{_≡_};
 ghost use Prim.Native.Nat.{_+_, _≤_, _<_};
 ghost use lib.ListN.{length};
 ghost use Rattle.answer.specs.Over.{over};
-ghost use Rattle.listing.specs.Text.{fitted};
+ghost use Rattle.listing.specs.Text.{fitted, secondRoom};
 ghost use Rattle.change.specs.Change.{changeRoom};
-ghost use Rattle.stream.specs.Stream.{change};
+ghost use Rattle.stream.specs.Stream.{lastListed, second, change};
 ghost use Rattle.lines.specs.Line.{shownIn, lineFor, endingOf, lastRoom};
 
 fn wide32(x: u32) -> u64
@@ -22,8 +22,9 @@ fn shown_in(st: State) -> Shown
 {
     let sup = st.sup;
     let standing = st.standing;
+    let levels = st.levels;
     let report = causes::report_of(standing, 0, 0);
-    change::shown_of(sup, report)
+    change::shown_of(sup, report, levels)
 }
 
 // Puts the line of a record that was told at a place, the frames accepted with it being `total`; where out has not the room, nothing.
@@ -32,16 +33,28 @@ pub fn told_line(was: State, is: State, total: u64, out: &mut [u8], at: usize) -
 {
     let before = shown_in(was);
     let after = shown_in(is);
-    let second = wide32(is.sup.seconds) + 1;
+    let second = wide32(is.sup.base.seconds) + 1;
     change::change_line(
         second,
-        is.sup.second.frames.0,
+        is.sup.base.second.frames.0,
         total,
         before,
         after,
         out,
         at,
     )
+}
+
+// Puts the line of the second that was closed last at a place: its twenty figures and the four of each provisioned level; where out has not the
+// room, nothing.
+pub fn closed_line(st: State, out: &mut [u8], at: usize) -> usize
+    ensures { λ r. ⌜ (r ≡ at + length (fitted (length (now (out .entry))) at secondRoom (lineFor (second (lastListed st))))) × (r ≤ at + secondRoom) × (now (out .exit) ≡ over (now (out .entry)) at (fitted (length (now (out .entry))) at secondRoom (lineFor (second (lastListed st))))) ⌝ }
+{
+    let levels = st.sup.levels;
+    let last = st.last;
+    let listed = tandem::listed_figures(levels, last);
+    let figures = listed.figures;
+    listing::second_line(figures, listed.n, out, at)
 }
 
 // The last lines, where the output is whole with them: the refusal, if there is one, and what was accepted.

@@ -49,12 +49,19 @@ start-without-blanks κs a s letter ns d at p =
     let h : _≡_ {A = ℕ} 5 8 = rw (letter, ns, d, at) at (p .0) in
     omega arith
 
--- twenty figures of one digit make 42 bytes: with one figure less they would be 40
+-- twenty figures of one digit make 42 bytes: with one figure less they would be 40, with those of one level 50
 pub second-short : (κs : Lfts 1) (a : Dens κs second-kinds.ps) (s : AtExit (endedOf 1 second-kinds.ps second-kinds.r) κs)
-    → a .0 ≡ replicate 20 1 → now (a .1 .0) ≡ replicate 422 0 → a .1 .1 .0 ≡ 0 → second-reads.Post κs a 40 s → ⊥
+    → a .0 ≡ replicate 44 1 → a .1 .0 ≡ 20 → now (a .1 .1 .0) ≡ replicate 926 0 → a .1 .1 .1 .0 ≡ 0 → second-reads.Post κs a 40 s → ⊥
 unfolding fitted textLine fieldsOf spaced decimalIn
-second-short κs a s figures d at p =
-    let h : _≡_ {A = ℕ} 40 42 = rw (figures, d, at) at (p .0) in
+second-short κs a s figures n d at p =
+    let h : _≡_ {A = ℕ} 40 42 = rw (figures, n, d, at) at (p .0) in
+    omega arith
+
+pub second-long : (κs : Lfts 1) (a : Dens κs second-kinds.ps) (s : AtExit (endedOf 1 second-kinds.ps second-kinds.r) κs)
+    → a .0 ≡ replicate 44 1 → a .1 .0 ≡ 20 → now (a .1 .1 .0) ≡ replicate 926 0 → a .1 .1 .1 .0 ≡ 0 → second-reads.Post κs a 50 s → ⊥
+unfolding fitted textLine fieldsOf spaced decimalIn
+second-long κs a s figures n d at p =
+    let h : _≡_ {A = ℕ} 50 42 = rw (figures, n, d, at) at (p .0) in
     omega arith
 
 -- a refusal prints its number and then the offset

@@ -38,8 +38,8 @@ start-end κs a x y s t p q = p .1 ∙ sym (q .1)
 pub second-one : OneAnswer 1 second-kinds.ps second-kinds.r second-reads.Post
 second-one κs a x y s t p q = p .0 ∙ sym (q .0)
 
-pub second-end : OneEnd 1 second-kinds.ps second-kinds.r (List ℕ) (λ κs s. now (s .1 .0)) second-reads.Post
-second-end κs a x y s t p q = p .1 ∙ sym (q .1)
+pub second-end : OneEnd 1 second-kinds.ps second-kinds.r (List ℕ) (λ κs s. now (s .1 .1 .0)) second-reads.Post
+second-end κs a x y s t p q = p .2 ∙ sym (q .2)
 
 pub refusal-one : OneAnswer 1 refusal-kinds.ps refusal-kinds.r refusal-reads.Post
 refusal-one κs a x y s t p q = p .0 ∙ sym (q .0)

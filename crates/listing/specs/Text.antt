@@ -29,7 +29,8 @@ lineStart letter ns = letter ∷ fieldsOf ns
 unfoldable pub textLine : ℕ → List ℕ → List ℕ
 textLine letter ns = lineStart letter ns ++ (10 ∷ [])
 
--- "S: second from 1, frames, heads 0 to 9, section near blocks, far blocks, near DS, far DS, then the path's four."
+-- "S: second from 1, frames, heads 0 to 9, section near blocks, far blocks, near DS, far DS, then the path's four." "Each S line gains the four
+-- figures of every provisioned level, lowest level first." (document 02, K1)
 abbrev pub secondLine : List ℕ → List ℕ
 secondLine figures = textLine 83 figures
 
@@ -53,9 +54,9 @@ numberRoom = 20
 abbrev pub startRoom : ℕ
 startRoom = 64
 
--- the room that a line is given: two bytes, and 21 for each number
+-- the room that a line is given: two bytes, and 21 for each number, of which the line of a second has 44 at most
 abbrev pub secondRoom : ℕ
-secondRoom = 422
+secondRoom = 926
 
 abbrev pub pairRoom : ℕ
 pairRoom = 44

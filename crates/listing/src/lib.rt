@@ -2,7 +2,7 @@
 ghost use mathlib.Core.Path.{_≡_};
 ghost use mathlib.Core.List.{[], _∷_};
 ghost use Prim.Native.Nat.{_+_, _-_, _*_, _≤_, _<_};
-ghost use lib.ListN.{length};
+ghost use lib.ListN.{length, take};
 ghost use Rattle.answer.specs.Over.{over};
 ghost use Rattle.listing.specs.Text.{decimalOf, spaced, fieldsOf, lineStart, textLine, fitted, secondLine, refusalLine, endLine, numberRoom, startRoom, secondRoom, pairRoom};
 ghost use Rattle.listing.specs.Wrote.{Wrote};
@@ -109,24 +109,27 @@ fn put_line(letter: u8, ns: &[u64], out: &mut [u8], at: usize) -> usize
 }
 
 // The figures of a second as they are put.
-fn widened(figures: [u32; 20]) -> [u64; 20]
+fn widened(figures: [u32; 44]) -> [u64; 44]
     ensures { λ r. ⌜ r ≡ figures ⌝ }
 {
-    let mut ns = [0u64; 20];
-    for i in 0..20 {
+    let mut ns = [0u64; 44];
+    for i in 0..44 {
         ns[i] = wide(figures[i]);
     }
     ns
 }
 
-// Puts the line of a closed second at a place and answers the place after it. Where there is less room than `secondRoom`, it puts
-// nothing.
-pub fn second_line(figures: [u32; 20], out: &mut [u8], at: usize) -> usize
-    ensures { λ r. ⌜ (r ≡ at + length (fitted (length (now (out .entry))) at secondRoom (secondLine figures))) × (now (out .exit) ≡ over (now (out .entry)) at (fitted (length (now (out .entry))) at secondRoom (secondLine figures))) ⌝ }
+// Puts the line of a closed second, of the first n of its figures (all of them where n is more), at a place and answers the place after it. Where
+// there is less room than `secondRoom`, it puts nothing.
+pub fn second_line(figures: [u32; 44], n: usize, out: &mut [u8], at: usize) -> usize
+    ensures { λ r. ⌜ (r ≡ at + length (fitted (length (now (out .entry))) at secondRoom (secondLine (take n figures)))) × (r ≤ at + secondRoom) × (now (out .exit) ≡ over (now (out .entry)) at (fitted (length (now (out .entry))) at secondRoom (secondLine (take n figures)))) ⌝ }
 {
     let free = room(out.len(), at);
-    if 422 <= free {
+    if 926 <= free {
         let ns = widened(figures);
+        if n < 44 {
+            return put_line(b'S', &ns[0..n], out, at);
+        }
         return put_line(b'S', &ns, out, at);
     }
     at

@@ -19,7 +19,7 @@ both false true f g = g refl
 both false false f g = refl
 
 -- lists
-same-eq : (a b : List ℕ) → same a b ≡ true → a ≡ b
+pub same-eq : (a b : List ℕ) → same a b ≡ true → a ≡ b
 unfolding same
 same-eq [] [] e = refl
 same-eq [] (y ∷ b) e = absurd (false≢true e)

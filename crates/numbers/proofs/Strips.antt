@@ -103,7 +103,7 @@ from-all n l e = sym (take-from n 0 l (omega arith)) ∙ take-all n l (omega ari
 abbrev pub Tops : List ℕ → List ℕ → Type 0
 Tops g w = (i : ℕ) → getD w i 0 ≤ getD g i 0
 
-flag-stays : (x : ℕ) → x ≤ 1 → flag (on x) ≡ x
+pub flag-stays : (x : ℕ) → x ≤ 1 → flag (on x) ≡ x
 flag-stays zero h = refl
 flag-stays (suc zero) h = refl
 flag-stays (suc (suc x)) h = absurd (omega arith)

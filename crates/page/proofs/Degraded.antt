@@ -22,7 +22,7 @@ use Rattle.page.proofs.Standings.{section-deg-kept, path-deg-kept}
 use Rattle.page.proofs.Seconds.{section-near-is, path-near-is}
 
 -- a second gives its filter a bit, and never makes it forget
-abbrev second : Bool → Given
+abbrev pub second : Bool → Given
 second bad = record { forget = false; bit = bad }
 
 bits-all : (bads : List Bool) → bitsSince (map second bads) ≡ bads
@@ -37,7 +37,7 @@ filter-is n h bads = let s : Suc n = suc-of n h in subst⁻¹ (λ (m : ℕ). Fil
 pub deg-on : (n : ℕ) → 0 < n → (bads : List Bool) → (onBy n bads ≡ true) ↔ On n bads
 deg-on n h bads = rw (filter-is n h bads .value, bits-all bads) at (filter-is n h bads .on)
 
-deg-value : (n : ℕ) → 0 < n → (bads : List Bool) → filterAfter n (map second bads) .on ≡ onBy n bads
+pub deg-value : (n : ℕ) → 0 < n → (bads : List Bool) → filterAfter n (map second bads) .on ≡ onBy n bads
 deg-value n h bads = filter-is n h bads .value ∙ ap (onBy n) (bits-all bads)
 
 -- one mark of the definitions

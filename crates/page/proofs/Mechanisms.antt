@@ -74,7 +74,16 @@ module _ (turn : Frame → List Frame → Turn) (im : (f : Frame) (l : List Fram
   steady [] = tt
   steady (f ∷ l) = (one-grows f l, steady l)
 
-  -- the accepted trace, and dTIM
+  -- the accepted trace, and dTIM, of a layer whose trace is that of the turns
+  pub trace-by : (l : List Frame) (z : Layer) → traceOnly z ≡ traceAfter (each turn l) → traceIn z ≡ acceptedBy (turnsSince (each turn l))
+  trace-by l z e = ap traceIn e ∙ trace-is (each turn l) (steady l)
+
+  pub tim-by : (l : List Frame) (z : Layer) → traceOnly z ≡ traceAfter (each turn l) → (mode : ℕ) (names : List ℕ) → length names ≡ 32
+      → timOf z mode names ≡ timBy (acceptedBy (turnsSince (each turn l))) mode names
+  unfolding timOf
+  tim-by l z e mode names long = ap (λ (y : Layer). timOf y mode names) e ∙ tim-is (each turn l) mode names (steady l) long
+
+  -- and of a layer of the supervisor
   module _ (p : Settings) (get : Supervisor → Layer)
       (step : (k : List Event) (f : Frame) → traceOnly (get (framed (sup p k) f)) ≡ turned (traceOnly (get (sup p k))) (turn f (framesBack k)))
       (keep : (s : Supervisor) → traceOnly (get (nextSecond s)) ≡ traceOnly (get s)) (start : traceOnly (get (freshOf p)) ≡ freshLayer) where
@@ -84,9 +93,8 @@ module _ (turn : Frame → List Frame → Turn) (im : (f : Frame) (l : List Fram
         carried p traceAfter (λ s. traceOnly (get s)) turn (λ k f gs e. step k f ∙ ap (λ (z : Layer). turned z (turn f (framesBack k))) e) keep start
 
     pub trace-law : (k : List Event) → traceIn (get (sup p k)) ≡ acceptedBy (turnsSince (each turn (framesBack k)))
-    trace-law k = ap traceIn (trace-over k) ∙ trace-is (each turn (framesBack k)) (steady (framesBack k))
+    trace-law k = trace-by (framesBack k) (get (sup p k)) (trace-over k)
 
     pub tim-law : (k : List Event) (mode : ℕ) (names : List ℕ) → length names ≡ 32
         → timOf (get (sup p k)) mode names ≡ timBy (acceptedBy (turnsSince (each turn (framesBack k)))) mode names
-    unfolding timOf
-    tim-law k mode names e = ap (λ (z : Layer). timOf z mode names) (trace-over k) ∙ tim-is (each turn (framesBack k)) mode names (steady (framesBack k)) e
+    tim-law k mode names e = tim-by (framesBack k) (get (sup p k)) (trace-over k) mode names e

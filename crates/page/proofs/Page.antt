@@ -95,7 +95,7 @@ acceptance p v h = (
 )
 
 -- what stands, by where it began and ended
-filter-stands : (n : ℕ) (gs : List Given) → (onBy (suc n) (bitsSince gs) ≡ true) ↔ On (suc n) (bitsSince gs)
+pub filter-stands : (n : ℕ) (gs : List Given) → (onBy (suc n) (bitsSince gs) ≡ true) ↔ On (suc n) (bitsSince gs)
 filter-stands n gs = rw (filter-on n gs .value) at (filter-on n gs .on)
 
 frame-stands : (l : List Frame) (b : Bool) → (inFrame l ≡ b) ↔ Framed b (map signs l)

@@ -25,7 +25,7 @@ use Rattle.page.proofs.Sections.{tim-stands as section-tim, bdi-stands 
 use Rattle.page.proofs.Paths.{signal-stands, tim-stands as path-tim, bdi-stands as path-bdi}
 
 -- a frame leaves dDEG
-trace-deg : (l : Layer) (forget inmulti : Bool) (n t : ℕ) → traceOf l forget inmulti n t .deg ≡ l .deg
+pub trace-deg : (l : Layer) (forget inmulti : Bool) (n t : ℕ) → traceOf l forget inmulti n t .deg ≡ l .deg
 unfolding traceOf byteOf closedCycle
 trace-deg l forget inmulti n t =
     let P : Layer → Type 0 = λ z. z .deg ≡ l .deg in

@@ -5,19 +5,17 @@ use mathlib.Core.Bool.{Bool, true, false}
 use mathlib.Core.List.{List, [], _∷_, _++_}
 use native.Mathlib.Nat.{add-zero, add-sub-cancel-left}
 use native.Mathlib.Omega.{arith}
-use lib.Dec.{leb}
 use lib.ListN.{length, drop, length-append}
-use Rattle.answer.proofs.Cond.{by-cond}
 use Rattle.answer.specs.Over.{over}
-use Rattle.listing.specs.Text.{fitted, secondLine}
+use Rattle.listing.specs.Text.{fitted}
 use Rattle.answer.proofs.Overs.{over-nil, over-over}
-use Rattle.listing.proofs.Overs.{fitted-is, line-length}
+use Rattle.listing.proofs.Overs.{fitted-is}
 use Rattle.trace.specs.declared.State.{State}
 use Rattle.trace.specs.declared.Run.{Run}
 use Rattle.trace.specs.declared.Stop.{Stop}
 use Rattle.trace.specs.declared.Stop.the-variants as stop
 use Rattle.trace.specs.Scan.{runOf}
-use Rattle.stream.specs.Stream.{Note, second, change, Scan, before, stopped, scanFrom, scanAfter}
+use Rattle.stream.specs.Stream.{lastListed, Note, second, change, Scan, before, stopped, scanFrom, scanAfter}
 use Rattle.stream.specs.Counts.{Counted}
 use Rattle.stream.proofs.Streams.{agree}
 use Rattle.stream.proofs.Counts.{run-counted, Stands, stands}
@@ -70,7 +68,7 @@ onFrom tell base n s r = scanFrom tell (drop (r .at) s) (base + r .at) (n + r .f
 
 -- what a run has come to, by why it stopped
 module _ (tell : Bool) (base n : ℕ) (st : State) (s : List ℕ) (r : Run) where
-  pub after-closed : r .stop ≡ stop.Closed → scanAfter tell base n st s r ≡ before (second (r .state .last) ∷ []) (onFrom tell base n s r)
+  pub after-closed : r .stop ≡ stop.Closed → scanAfter tell base n st s r ≡ before (second (lastListed (r .state)) ∷ []) (onFrom tell base n s r)
   unfolding scanAfter
   after-closed e = rw e
 
@@ -86,11 +84,6 @@ module _ (tell : Bool) (base n : ℕ) (st : State) (s : List ℕ) (r : Run) wher
   unfolding scanAfter
   after-refused number offset e = rw e
 
--- no more is put than the line has
-fitted-length : (long at room : ℕ) (v : List ℕ) → length (fitted long at room v) ≤ length v
-unfolding fitted
-fitted-length long at room v = by-cond (λ (l : List ℕ). length l ≤ length v) (leb room (long - at)) (λ _. omega arith) (λ _. omega arith)
-
 -- What holds in the loop: the records before `at` are taken, and the lines of what they told stand in the first `put` bytes of out, which was
 -- d; what is left gives what the whole gives.
 pub record Going (from : Reading) (s d out : List ℕ) (at put : ℕ) (st : State) (frames : ℕ) : Type 0 where
@@ -99,7 +92,7 @@ pub record Going (from : Reading) (s d out : List ℕ) (at put : ℕ) (st : Stat
   pub same : ending (readFrom from s) ≡ ending (scanFrom (from .tell) (drop at s) (from .at + at) frames st)
   pub text : over d 0 (linesOf (readFrom from s .told)) ≡ over out put (linesOf (scanFrom (from .tell) (drop at s) (from .at + at) frames st .told))
   pub place : length (linesOf (readFrom from s .told)) ≡ put + length (linesOf (scanFrom (from .tell) (drop at s) (from .at + at) frames st .told))
-  pub room : 4 * put ≤ 422 * at
+  pub room : 4 * put ≤ 926 * at
   pub counted : Counted (from .at + at) frames st
 
 pub going-start : (from : Reading) (s d : List ℕ) → Sound from → Going from s d d 0 0 (from .state) (from .frames)
@@ -122,7 +115,7 @@ module _ (from : Reading) (s d out : List ℕ) (at put : ℕ) (st : State) (fram
 
   -- something was told of k bytes at least, and its line put, which has its room
   pub going-on : (note : Note) (room k p : ℕ) (out₂ : List ℕ) → scanAfter (from .tell) (from .at) frames st s r ≡ before (note ∷ []) (onFrom (from .tell) (from .at) frames s r)
-      → at + k ≤ r .at → 4 * room ≤ 422 * k → length s ≤ 4096 → 432216 ≤ length d
+      → at + k ≤ r .at → 4 * room ≤ 926 * k → length s ≤ 4096 → 948312 ≤ length d
       → p ≡ put + length (fitted (length out) put room (lineFor note)) → p ≤ put + room → out₂ ≡ over out put (fitted (length out) put room (lineFor note)) → length out₂ ≡ length out
       → Going from s d out₂ (r .at) p (r .state) (frames + r .frames)
   unfolding linesOf
@@ -151,21 +144,20 @@ module _ (from : Reading) (s d out : List ℕ) (at put : ℕ) (st : State) (fram
       }
 
   -- a second was closed
-  pub going-closed : (p : ℕ) (out₂ : List ℕ) → r .stop ≡ stop.Closed → length s ≤ 4096 → 432216 ≤ length d
-      → p ≡ put + length (fitted (length out) put 422 (secondLine (r .state .last))) → out₂ ≡ over out put (fitted (length out) put 422 (secondLine (r .state .last))) → length out₂ ≡ length out
+  pub going-closed : (p : ℕ) (out₂ : List ℕ) → r .stop ≡ stop.Closed → length s ≤ 4096 → 948312 ≤ length d
+      → p ≡ put + length (fitted (length out) put 926 (lineFor (second (lastListed (r .state))))) → p ≤ put + 926
+      → out₂ ≡ over out put (fitted (length out) put 926 (lineFor (second (lastListed (r .state))))) → length out₂ ≡ length out
       → Going from s d out₂ (r .at) p (r .state) (frames + r .frames)
-  unfolding lineFor
-  going-closed p out₂ c short big ep eo el =
-      let few : p ≤ put + 422 = omega (arith, ep, fitted-length (length out) put 422 (secondLine (r .state .last)), line-length 83 (r .state .last), run-sound .twenty) in
-      going-on (second (r .state .last)) 422 4 p out₂ (after-closed (from .tell) (from .at) frames st s r c) (run-stands .further c) (omega arith) short big ep few eo el
+  going-closed p out₂ c short big ep few eo el =
+      going-on (second (lastListed (r .state))) 926 4 p out₂ (after-closed (from .tell) (from .at) frames st s r c) (run-stands .further c) (omega arith) short big ep few eo el
 
   -- a record was told
-  pub going-told : (p : ℕ) (out₂ : List ℕ) → r .stop ≡ stop.Told → length s ≤ 4096 → 432216 ≤ length d
-      → p ≡ put + length (fitted (length out) put 1024 (lineFor (change (frames + r .frames) st (r .state)))) → p ≤ put + 1024
-      → out₂ ≡ over out put (fitted (length out) put 1024 (lineFor (change (frames + r .frames) st (r .state)))) → length out₂ ≡ length out
+  pub going-told : (p : ℕ) (out₂ : List ℕ) → r .stop ≡ stop.Told → length s ≤ 4096 → 948312 ≤ length d
+      → p ≡ put + length (fitted (length out) put 2560 (lineFor (change (frames + r .frames) st (r .state)))) → p ≤ put + 2560
+      → out₂ ≡ over out put (fitted (length out) put 2560 (lineFor (change (frames + r .frames) st (r .state)))) → length out₂ ≡ length out
       → Going from s d out₂ (r .at) p (r .state) (frames + r .frames)
   going-told p out₂ c short big ep few eo el =
-      going-on (change (frames + r .frames) st (r .state)) 1024 71 p out₂ (after-told (from .tell) (from .at) frames st s r c) (run-stands .told c) (omega arith) short big ep few eo el
+      going-on (change (frames + r .frames) st (r .state)) 2560 44 p out₂ (after-told (from .tell) (from .at) frames st s r c) (run-stands .told c) (omega arith) short big ep few eo el
 
   -- what a run has come to that ends the turn
   stops : (x : Stop) → r .stop ≡ x → haltOf x .ends ≡ true

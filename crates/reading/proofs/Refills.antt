@@ -75,16 +75,16 @@ module _ (from : Reading) (held got : ℕ) (h : Sound from) (buf one two s : Lis
 
 -- How far a program is from its end: each refill after which it goes on has read more of what a trace can hold.
 unfoldable pub toGo : Bool → ℕ → ℕ
-toGo ended n = cond ended 0 (1 + (121977088386269346 - n))
+toGo ended n = cond ended 0 (1 + (132285009896669610 - n))
 
 pub nearer : (from r : Refilled) → Sound (from .reading) → from .held < 83 → from .ended ≡ false → (r .ended ≡ false → from .reading .at + from .held < r .reading .at + r .held)
     → toGo (r .ended) (r .reading .at + r .held) < toGo (from .ended) (from .reading .at + from .held)
 unfolding toGo
 nearer from r h l e f = rw e (by-ended (r .ended) refl)
   where
-    most : from .reading .at + from .held < 121977088386269346
-    most = omega (arith, h .within, h .few, h .held, h .seconds)
+    most : from .reading .at + from .held < 132285009896669610
+    most = omega (arith, h .within, h .most, h .few, h .held, h .seconds)
 
-    by-ended : (b : Bool) → r .ended ≡ b → cond b 0 (1 + (121977088386269346 - (r .reading .at + r .held))) < 1 + (121977088386269346 - (from .reading .at + from .held))
+    by-ended : (b : Bool) → r .ended ≡ b → cond b 0 (1 + (132285009896669610 - (r .reading .at + r .held))) < 1 + (132285009896669610 - (from .reading .at + from .held))
     by-ended true p = omega arith
     by-ended false p = omega (arith, most, f p)

@@ -30,7 +30,7 @@ ending-put d at r o v h e t =
 -- what `turn` answers
 module _ (from : Reading) (s : List ℕ) (ended : Bool) (d o : List ℕ) (text : o ≡ over d 0 (linesOf (readFrom from s .told))) where
   abbrev endOf : Gathered → Bool → List ℕ
-  endOf g more = endingOf (ended || not more) (g .refusal) (g .reading .at) (g .reading .state .sup .seconds) (g .reading .frames)
+  endOf g more = endingOf (ended || not more) (g .refusal) (g .reading .at) (g .reading .state .sup .base .seconds) (g .reading .frames)
 
   abbrev Turns : Gathered → Bool → Type 0
   Turns g more = (p : ℕ) (o₂ : List ℕ) → p ≡ g .put + length (endOf g more) → o₂ ≡ over o (g .put) (endOf g more)

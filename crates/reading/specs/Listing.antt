@@ -13,7 +13,7 @@ linesOf (n ∷ ns) = lineFor n ++ linesOf ns
 
 -- those of a scan: the marks accepted are the seconds closed
 abbrev pub tailOf : Scan → List ℕ
-tailOf c = lastLines (c .refusal) (c .at) (c .state .sup .seconds) (c .frames)
+tailOf c = lastLines (c .refusal) (c .at) (c .state .sup .base .seconds) (c .frames)
 
 -- the text of what a scan has come to
 abbrev pub textOf : Scan → List ℕ

@@ -91,7 +91,7 @@ fn goes_on(refusal: u8) -> bool
 fn turn(from: Reading, s: &[u8], ended: bool, out: &mut [u8]) -> Turned
     requires { ⌜ Sound from ⌝ }
     requires { ⌜ length (now s) ≤ 4096 ⌝ }
-    requires { ⌜ 432216 ≤ length (now out) ⌝ }
+    requires { ⌜ 948312 ≤ length (now out) ⌝ }
     ensures { λ r. ⌜ (r ≡ turnOf from (now (s .entry)) ended) × (now (out .exit) ≡ over (now (out .entry)) 0 (writtenOf from (now (s .entry)) ended)) ⌝ }
 {
     let mut at = 0;
@@ -110,7 +110,7 @@ fn turn(from: Reading, s: &[u8], ended: bool, out: &mut [u8]) -> Turned
             let more = goes_on(h.refusal);
             let done = ended | !more;
             let offset = from.at + wide(at);
-            let marks = state.sup.seconds;
+            let marks = state.sup.base.seconds;
             let last = lines::last_lines(done, h.refusal, offset, marks, frames, out, put);
             return Turned {
                 reading: Reading {
@@ -127,8 +127,7 @@ fn turn(from: Reading, s: &[u8], ended: bool, out: &mut [u8]) -> Turned
         if h.told {
             put = lines::told_line(was, state, frames, out, put);
         } else {
-            let figures = state.last;
-            put = listing::second_line(figures, out, put);
+            put = lines::closed_line(state, out, put);
         }
     }
 }
@@ -161,7 +160,7 @@ fn refill(from: Refilled, buf: &mut [u8], out: &mut [u8]) -> Refilled
     requires { ⌜ Sound (from .reading) ⌝ }
     requires { ⌜ from .held < 83 ⌝ }
     requires { ⌜ length (now buf) ≡ 4096 ⌝ }
-    requires { ⌜ 432216 ≤ length (now out) ⌝ }
+    requires { ⌜ 948312 ≤ length (now out) ⌝ }
     ensures { λ r. ⌜ Refill (from .reading) (from .held) (now (buf .entry)) (now (buf .exit)) (now (out .entry)) (now (out .exit)) r ⌝ }
 {
     let reading = from.reading;
@@ -203,7 +202,7 @@ fn started(tell: bool) -> Refilled
 // frames.
 fn pump(tell: bool, buf: &mut [u8], out: &mut [u8])
     requires { ⌜ length (now buf) ≡ 4096 ⌝ }
-    requires { ⌜ 432216 ≤ length (now out) ⌝ }
+    requires { ⌜ 948312 ≤ length (now out) ⌝ }
 {
     let mut r = started(tell);
     let mut ended = false;
@@ -214,10 +213,10 @@ fn pump(tell: bool, buf: &mut [u8], out: &mut [u8])
 }
 
 // Room for the lines that 4,096 bytes of input can give: 1,024 seconds and the last two.
-fn text_buffer() -> [u8; 524288]
-    ensures { λ r. ⌜ 524288 ≡ length r ⌝ }
+fn text_buffer() -> [u8; 1048576]
+    ensures { λ r. ⌜ 1048576 ≡ length r ⌝ }
 {
-    [0; 524288]
+    [0; 1048576]
 }
 
 // A program from its start to its end: `ledger` tells the seconds, `explain` every record.

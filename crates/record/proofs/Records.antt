@@ -12,7 +12,7 @@ use lib.Seq.{getD-drop, drop-drop, take-append-le, drop-append-le}
 use borrow.Author.Tests.{lt-ltb, le-ltb, eq-eqb, ne-eqb, ltb-true, ltb-false, eqb-false}
 use Rattle.record.specs.Record.{recordOf, recordAt, ofKind, lengthOf, refusalIn, twoAt, sizeOf, recordsFrom, recordsOf, bodyOf, Within}
 use Rattle.record.specs.declared.Record.{Record}
-use Rattle.record.specs.declared.Record.the-variants.{Frame, Mark, Provisioning, Refused}
+use Rattle.record.specs.declared.Record.the-variants.{Frame, Mark, Provisioning, Level, LevelFrame, Refused}
 
 module _ (s : List ℕ) (at : ℕ) where
   pub two-drop : (i : ℕ) → twoAt (drop at s) i ≡ twoAt s (at + i)
@@ -54,6 +54,8 @@ abbrev pub Whole : List ℕ → Record → Type 0
 Whole ys Frame = 71 ≤ length ys
 Whole ys Mark = 4 ≤ length ys
 Whole ys Provisioning = 83 ≤ length ys
+Whole ys Level = 44 ≤ length ys
+Whole ys LevelFrame = 77 ≤ length ys
 Whole ys (Refused n) = (0 < n) × (n ≡ 14 → length ys < 83)
 
 pub whole-record : (ys : List ℕ) → Whole ys (recordOf ys)
@@ -67,12 +69,16 @@ whole-record ys = by-few (ltb (length ys) 4) refl
     by-whole Frame z h = h
     by-whole Mark z h = h
     by-whole Provisioning z h = h
+    by-whole Level z h = h
+    by-whole LevelFrame z h = h
     by-whole (Refused n) z h = absurd (z refl)
 
     longest : (r : Record) → lengthOf r + 2 ≤ 83
     longest Frame = omega arith
     longest Mark = omega arith
     longest Provisioning = omega arith
+    longest Level = omega arith
+    longest LevelFrame = omega arith
     longest (Refused n) = omega arith
 
     by-cut : (a : Bool) → ltb (length ys) (lengthOf k + 2) ≡ a → (lengthOf k ≡ 0 → ⊥) → Whole ys (cond a (Refused 14) k)
@@ -96,6 +102,8 @@ pub within-at : (s : List ℕ) (at : ℕ) (r : Record) → at < length s → Who
 within-at s at Frame l h = omega (arith, simp length-drop at h)
 within-at s at Mark l h = omega (arith, simp length-drop at h)
 within-at s at Provisioning l h = omega (arith, simp length-drop at h)
+within-at s at Level l h = omega (arith, simp length-drop at h)
+within-at s at LevelFrame l h = omega (arith, simp length-drop at h)
 within-at s at (Refused n) l h = tt
 
 two-append : (zs ys : List ℕ) (i : ℕ) → i + 1 < length zs → twoAt (zs ++ ys) i ≡ twoAt zs i
@@ -138,6 +146,8 @@ pub body-append : (zs ys : List ℕ) (r : Record) → (refusalIn r ≡ 0) → Wh
 body-append zs ys Frame e h = part-append zs ys 67 h
 body-append zs ys Mark e h = part-append zs ys 0 h
 body-append zs ys Provisioning e h = part-append zs ys 79 h
+body-append zs ys Level e h = part-append zs ys 40 h
+body-append zs ys LevelFrame e h = part-append zs ys 73 h
 body-append zs ys (Refused n) e h = absurd (omega (arith, e, h .0))
 
 -- the records: skipping bytes is dropping them, and after a record come those of what follows it

@@ -13,6 +13,8 @@ use Rattle.record.proofs.section_in.Kinds as section-kinds
 use Rattle.record.proofs.section_in.Reads as section-reads
 use Rattle.record.proofs.path_in.Kinds as path-kinds
 use Rattle.record.proofs.path_in.Reads as path-reads
+use Rattle.record.proofs.level_in.Kinds as level-kinds
+use Rattle.record.proofs.level_in.Reads as level-reads
 
 pub length-one : OneAnswer 0 length-kinds.ps length-kinds.r length-reads.Post
 length-one κs a x y s t p q = p ∙ sym q
@@ -31,3 +33,6 @@ section-one κs a x y s t p q = p ∙ sym q
 
 pub path-one : OneAnswer 1 path-kinds.ps path-kinds.r path-reads.Post
 path-one κs a x y s t p q = p ∙ sym q
+
+pub level-one : OneAnswer 1 level-kinds.ps level-kinds.r level-reads.Post
+level-one κs a x y s t p q = p ∙ sym q

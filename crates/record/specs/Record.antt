@@ -1,4 +1,5 @@
--- A trace's records: what a list of bytes begins with (document 01, "Trace records and the listing"). Assumes nothing.
+-- A trace's records: what a list of bytes begins with (document 01, "Trace records and the listing"; kinds 4 and 5 document 02, K1). Assumes
+-- nothing.
 use Prim.Native.Nat.{ℕ, zero, suc, pred, _+_, _-_, _*_, _≤_}
 use mathlib.Core.Bool.{cond}
 use mathlib.Core.List.{List, [], _∷_}
@@ -6,20 +7,25 @@ use lib.ListN.{length, getD, drop, take}
 use lib.Dec.{ltb, eqb}
 use Rattle.settings.specs.declared.Request.{Request}
 use Rattle.record.specs.declared.Record.{Record}
-use Rattle.record.specs.declared.Record.the-variants.{Frame, Mark, Provisioning, Refused}
+use Rattle.record.specs.declared.Record.the-variants.{Frame, Mark, Provisioning, Level, LevelFrame, Refused}
 
--- "A record is either a frame, a mark, a provisioning or a refusal." Document 01's numbers for each case: the kind,
+-- "A record is either a frame, a mark, a provisioning or a refusal"; and a level's provisioning, or a frame with the levels' counts. The
+-- documents' numbers for each case: the kind,
 abbrev pub kindOf : Record → ℕ
 kindOf Frame = 1
 kindOf Mark = 2
 kindOf Provisioning = 3
+kindOf Level = 4
+kindOf LevelFrame = 5
 kindOf (Refused n) = 0
 
--- the length, "counting kind and body": "Kind 1, length 69", "Kind 2, length 2", "Kind 3, length 81",
+-- the length, "counting kind and body": "Kind 1, length 69", "Kind 2, length 2", "Kind 3, length 81", "kind 4, length 42", "kind 5, length 75",
 abbrev pub lengthOf : Record → ℕ
 lengthOf Frame = 69
 lengthOf Mark = 2
 lengthOf Provisioning = 81
+lengthOf Level = 42
+lengthOf LevelFrame = 75
 lengthOf (Refused n) = 0
 
 -- and the refusal, 0 where there is none
@@ -27,6 +33,8 @@ abbrev pub refusalIn : Record → ℕ
 refusalIn Frame = 0
 refusalIn Mark = 0
 refusalIn Provisioning = 0
+refusalIn Level = 0
+refusalIn LevelFrame = 0
 refusalIn (Refused n) = n
 
 -- two bytes and four, "all little-endian"
@@ -38,7 +46,16 @@ fourAt s at = twoAt s at + 65536 * twoAt s (at + 2)
 
 -- the record of a kind: 15 "kind unknown"
 unfoldable pub ofKind : ℕ → Record
-ofKind kind = cond (eqb kind (kindOf Frame)) Frame (cond (eqb kind (kindOf Mark)) Mark (cond (eqb kind (kindOf Provisioning)) Provisioning (Refused 15)))
+ofKind kind =
+    cond (eqb kind (kindOf Frame))
+    Frame
+    (cond (eqb kind (kindOf Mark))
+    Mark
+    (cond (eqb kind (kindOf Provisioning))
+    Provisioning
+    (cond (eqb kind (kindOf Level))
+    Level
+    (cond (eqb kind (kindOf LevelFrame)) LevelFrame (Refused 15)))))
 
 -- The record that a list of bytes begins with: "Two-byte length counting kind and body, two-byte kind, body". "Records: fewer than 4 bytes
 -- is 14, then 15, a cut body 14": 15 is "kind unknown, or length wrong for it".
@@ -79,6 +96,8 @@ abbrev pub framesIn : Record → ℕ
 framesIn Frame = 1
 framesIn Mark = 0
 framesIn Provisioning = 0
+framesIn Level = 0
+framesIn LevelFrame = 1
 framesIn (Refused n) = 0
 
 -- a record stands whole at a position, or it is a refusal
@@ -86,17 +105,22 @@ abbrev pub Within : List ℕ → ℕ → Record → Type 0
 Within s at Frame = at + 71 ≤ length s
 Within s at Mark = at + 4 ≤ length s
 Within s at Provisioning = at + 83 ≤ length s
+Within s at Level = at + 44 ≤ length s
+Within s at LevelFrame = at + 77 ≤ length s
 Within s at (Refused n) = Unit {0}
 
--- what a provisioning's body asks for a layer, by where its DEGThr stands and where its trace mode: DEGM follows DEGThr, and TIMActDis stands
--- two bytes after the mode
-abbrev pub requestAt : List ℕ → ℕ → ℕ → Request
-requestAt body thr mode = record { thr = fourAt body thr; degm = getD body (thr + 4) 0; mode = getD body mode 0; dis = getD body (mode + 2) 0 }
+-- what a provisioning's body asks for a layer, by where its DEGThr stands, where its trace mode and where its TIMActDis: DEGM follows DEGThr
+abbrev pub requestAt : List ℕ → ℕ → ℕ → ℕ → Request
+requestAt body thr mode dis = record { thr = fourAt body thr; degm = getD body (thr + 4) 0; mode = getD body mode 0; dis = getD body dis 0 }
 
 -- "Kind 3, length 81: k, SM DEGThr (4), SM DEGM, PM DEGThr (4), PM DEGM, SM mode, PM mode, SM TIMActDis, PM TIMActDis, SM names (32), PM
 -- names (32)."
 abbrev pub sectionIn : List ℕ → Request
-sectionIn body = record { thr = fourAt body 1; degm = getD body 5 0; mode = getD body 11 0; dis = getD body 13 0 }
+sectionIn body = requestAt body 1 11 13
 
 abbrev pub pathIn : List ℕ → Request
-pathIn body = record { thr = fourAt body 6; degm = getD body 10 0; mode = getD body 12 0; dis = getD body 14 0 }
+pathIn body = requestAt body 6 12 14
+
+-- "kind 4, length 42, .. level, DEGThr (4), DEGM, mode, TIMActDis, names (32)"
+abbrev pub levelIn : List ℕ → Request
+levelIn body = requestAt body 1 6 7

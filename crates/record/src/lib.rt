@@ -3,13 +3,15 @@ use settings::Request;
 ghost use mathlib.Core.Path.{_≡_};
 ghost use Prim.Native.Nat.{_<_};
 ghost use lib.ListN.{getD};
-ghost use Rattle.record.specs.Record.{recordAt, lengthOf, refusalIn, ofKind, framesIn, twoAt, requestAt, sectionIn, pathIn};
+ghost use Rattle.record.specs.Record.{recordAt, lengthOf, refusalIn, ofKind, framesIn, twoAt, requestAt, sectionIn, pathIn, levelIn};
 
 // One record. A body stands after the length and the kind, four bytes from the record's start.
 pub enum Record {
     Frame,
     Mark,
     Provisioning,
+    Level,
+    LevelFrame,
     Refused(u8),
 }
 
@@ -53,6 +55,12 @@ fn of_kind(kind: usize) -> Record
     if kind == 3 {
         return Record::Provisioning;
     }
+    if kind == 4 {
+        return Record::Level;
+    }
+    if kind == 5 {
+        return Record::LevelFrame;
+    }
     Record::Refused(15)
 }
 
@@ -64,6 +72,8 @@ pub fn length_of(r: Record) -> usize
         Record::Frame => 69,
         Record::Mark => 2,
         Record::Provisioning => 81,
+        Record::Level => 42,
+        Record::LevelFrame => 75,
         Record::Refused(_) => 0,
     }
 }
@@ -76,6 +86,8 @@ pub fn refusal_in(r: Record) -> u8
         Record::Frame => 0,
         Record::Mark => 0,
         Record::Provisioning => 0,
+        Record::Level => 0,
+        Record::LevelFrame => 0,
         Record::Refused(no) => no,
     }
 }
@@ -88,6 +100,8 @@ pub fn frames_in(r: Record) -> usize
         Record::Frame => 1,
         Record::Mark => 0,
         Record::Provisioning => 0,
+        Record::Level => 0,
+        Record::LevelFrame => 1,
         Record::Refused(_) => 0,
     }
 }
@@ -119,10 +133,10 @@ pub fn record_at(s: &[u8], at: usize) -> Record
     r
 }
 
-// What a provisioning's body asks for one layer, by where its DEGThr stands and where its trace mode.
-fn request_at(body: &[u8], thr: usize, mode: usize) -> Request
-    requires { ⌜ (thr < 7) × (mode < 13) ⌝ }
-    ensures { λ r. ⌜ r ≡ requestAt (now (body .entry)) thr mode ⌝ }
+// What a provisioning's body asks for one layer, by where its DEGThr stands, where its trace mode and where its TIMActDis.
+fn request_at(body: &[u8], thr: usize, mode: usize, dis: usize) -> Request
+    requires { ⌜ thr < 7 ⌝ }
+    ensures { λ r. ⌜ r ≡ requestAt (now (body .entry)) thr mode dis ⌝ }
 {
     let low = two_at(body, thr);
     let high = two_at(body, thr + 2);
@@ -130,7 +144,7 @@ fn request_at(body: &[u8], thr: usize, mode: usize) -> Request
         thr: (low + 65536 * high) as u32,
         degm: byte_at(body, thr + 4),
         mode: byte_at(body, mode),
-        dis: byte_at(body, mode + 2),
+        dis: byte_at(body, dis),
     }
 }
 
@@ -138,11 +152,18 @@ fn request_at(body: &[u8], thr: usize, mode: usize) -> Request
 pub fn section_in(body: &[u8]) -> Request
     ensures { λ r. ⌜ r ≡ sectionIn (now (body .entry)) ⌝ }
 {
-    request_at(body, 1, 11)
+    request_at(body, 1, 11, 13)
 }
 
 pub fn path_in(body: &[u8]) -> Request
     ensures { λ r. ⌜ r ≡ pathIn (now (body .entry)) ⌝ }
 {
-    request_at(body, 6, 12)
+    request_at(body, 6, 12, 14)
+}
+
+// What the body of a level's provisioning asks for the level.
+pub fn level_in(body: &[u8]) -> Request
+    ensures { λ r. ⌜ r ≡ levelIn (now (body .entry)) ⌝ }
+{
+    request_at(body, 1, 6, 7)
 }

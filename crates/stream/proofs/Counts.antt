@@ -1,32 +1,39 @@
 -- Wherever a scan stands its offset and its frames are `Counted`; and a record that is cut lies in fewer than 83 bytes. Assumes nothing.
-use Prim.Native.Nat.{ℕ, _+_, _-_, _≤_, _<_}
-use mathlib.Core.Path.{_≡_, refl, _∙_, sym, subst}
-use mathlib.Core.Bool.{Bool, true, false, cond}
+use Prim.Native.Nat.{ℕ, _+_, _-_, _*_, _≤_, _<_}
+use mathlib.Core.Path.{_≡_, refl, _∙_, ap, sym, subst}
+use mathlib.Core.Bool.{Bool, true, false}
 use mathlib.Core.List.{List, []}
 use native.Mathlib.Nat.{add-assoc, add-zero, add-sub-cancel-left}
 use native.Mathlib.Omega.{arith}
 use lib.Dec.{eqb, ltb}
 use lib.Seq.{drop-drop}
-use lib.ListN.{length, getD, take, drop, length-drop, drop-of-length-le}
-use borrow.Author.Tests.{ltb-true, lt-ltb, eqb-true, eq-eqb}
-use Rattle.answer.proofs.Checks.{passed, first-low}
-use Rattle.answer.proofs.Cond.{cond-under, by-cond, not-so}
+use lib.ListN.{length, getD, take, drop, length-append, length-drop, drop-of-length-le}
+use borrow.Author.Tests.{ltb-true, lt-ltb}
+use Rattle.answer.proofs.Checks.{passed}
+use Rattle.answer.proofs.Cond.{by-cond, not-so}
 use Rattle.filter.specs.Filter.{upOf}
-use Rattle.history.specs.History.{mark, refusalOf}
-use Rattle.settings.specs.Settings.{settingsChecks, settingsRefusal}
+use Rattle.history.specs.History.{Frame as Sent}
+use Rattle.settings.specs.Settings.{settingsRefusal}
 use Rattle.second.specs.Second.{countOf, oneFrame}
-use Rattle.supervisor.specs.Supervisor.{provisionOf, stepChecks, stepRefusal, frameOf, stepOf, nextSecond, markOf}
+use Rattle.supervisor.specs.Supervisor.{provisionOf, stepChecks, stepRefusal, frameOf, nextSecond, markOf}
 use Rattle.settings.specs.declared.Request.{Request}
 use Rattle.supervisor.specs.declared.Provisioned.{Provisioned}
-use Rattle.supervisor.specs.declared.Stepped.{Stepped}
-use Rattle.supervisor.specs.declared.Marked.{Marked}
 use Rattle.supervisor.specs.declared.Supervisor.{Supervisor}
-use Rattle.record.specs.Record.{recordOf, recordsFrom, sizeOf, bodyOf, framesIn, sectionIn, pathIn}
-use Rattle.trace.specs.Scan.{startOf, stepIn, framedOf, markedOf, provisionedOf, appliedOf, takenOf, runOf}
+use Rattle.tandem.specs.Tandem as tandem
+use Rattle.tandem.specs.Tandem.{recordRefusal}
+use Rattle.tandem.specs.declared.Tandem.{Tandem}
+use Rattle.tandem.specs.declared.TandemMarked.{TandemMarked}
+use Rattle.tandem.proofs.Turns.{figures-long}
+use Rattle.watch.specs.Watch.{refusalAt, framedAt, tandemBy}
+use Rattle.watch.proofs.Silent.{given-base}
+use Rattle.watch.proofs.Alone.{plain-accepts, frame-accepted}
+use Rattle.record.specs.Record.{kindOf, recordOf, recordsFrom, sizeOf, bodyOf, framesIn, sectionIn, pathIn, levelIn}
+use Rattle.trace.specs.Scan.{startOf, noCounts, countsIn, giveIn, framedOf, provisionedOf, appliedOf, takenOf, runOf}
 use Rattle.stream.specs.Stream.{Scan, scanOver, scanFrom}
 use Rattle.stream.specs.Counts.{Counted}
+use Rattle.stream.specs.Figures.{sentIn}
 use Rattle.record.specs.declared.Record.{Record}
-use Rattle.record.specs.declared.Record.the-variants.{Frame, Mark, Provisioning, Refused}
+use Rattle.record.specs.declared.Record.the-variants.{Frame, Mark, Provisioning, Level, LevelFrame, Refused}
 use Rattle.trace.specs.declared.State.{State}
 use Rattle.trace.specs.declared.Taken.{Taken}
 use Rattle.trace.specs.declared.Run.{Run}
@@ -34,52 +41,17 @@ use Rattle.trace.specs.declared.Stop.the-variants as stop
 use Rattle.record.proofs.Records.{Whole, whole-record}
 use Rattle.trace.proofs.Scans.{sized, some-left, run-end, run-refused, run-closed, run-told, run-on}
 use Rattle.stream.proofs.Streams.{along, scan-refused, scan-on}
-
--- the refusal of each call is that of its tests
-zero-or : (n : ℕ) (t : Bool) → eqb n 0 ≡ t → cond t 0 n ≡ n
-zero-or n true e = sym (eqb-true n 0 e)
-zero-or n false e = refl
-
-pub step-says : (s : Supervisor) (overhead : List ℕ) (flags sm pm : ℕ) → stepOf s overhead flags sm pm .refusal ≡ stepRefusal s overhead flags sm pm
-unfolding stepOf
-step-says s overhead flags sm pm =
-    cond-under (λ (z : Stepped). z .refusal) (eqb (stepRefusal s overhead flags sm pm) 0) _ _ ∙ zero-or (stepRefusal s overhead flags sm pm) (eqb (stepRefusal s overhead flags sm pm) 0) refl
-
-pub provision-says : (k : ℕ) (section path : Request) (snames pnames : List ℕ) → provisionOf k section path snames pnames .refusal ≡ settingsRefusal k section path snames pnames
-unfolding provisionOf
-provision-says k section path snames pnames =
-    cond-under (λ (z : Provisioned). z .refusal) (eqb (settingsRefusal k section path snames pnames) 0) _ _ ∙ zero-or (settingsRefusal k section path snames pnames) (eqb (settingsRefusal k section path snames pnames) 0) refl
-
-pub mark-says : (s : Supervisor) → markOf s .refusal ≡ refusalOf s mark
-unfolding markOf refusalOf
-mark-says s = cond-under (λ (m : Marked). m .refusal) (ltb (s .seconds) 4294967295) _ _
-
--- none of them is 14
-step-low : (s : Supervisor) (overhead : List ℕ) (flags sm pm : ℕ) → stepOf s overhead flags sm pm .refusal ≤ 4
-unfolding stepRefusal
-step-low s overhead flags sm pm = rw (step-says s overhead flags sm pm) (first-low 4 (stepChecks s overhead flags sm pm) refl)
-
-provision-low : (k : ℕ) (section path : Request) (snames pnames : List ℕ) → provisionOf k section path snames pnames .refusal ≤ 10
-unfolding settingsRefusal
-provision-low k section path snames pnames = rw (provision-says k section path snames pnames) (first-low 10 (settingsChecks k section path snames pnames) refl)
-
-mark-low : (s : Supervisor) → markOf s .refusal ≤ 4
-unfolding markOf
-mark-low s = by-cond (λ (m : Marked). m .refusal ≤ 4) (ltb (s .seconds) 4294967295) (λ _. omega arith) (λ _. omega arith)
+use Rattle.stream.proofs.Calls.{few-given, frame-levels, mark-levels, record-levels}
+use Rattle.stream.proofs.Taking.{framed-uncut, marked-uncut, given-uncut, provisioned-uncut, answered-taken, frame-taken, mark-taken, level-taken}
 
 -- a record that is refused as cut lies in fewer than 83 bytes
 cut-by : (st : State) (ys body : List ℕ) (r : Record) → Whole ys r → appliedOf st r body .refusal ≡ 14 → length ys < 83
-unfolding framedOf markedOf provisionedOf
-cut-by st ys body Frame h =
-    by-cond (λ (t : Taken). t .refusal ≡ 14 → length ys < 83) (st .begun)
-    (λ _ e. absurd (omega (arith, e, step-low (st .sup) (take 64 body) (getD body 64 0) (getD body 65 0) (getD body 66 0))))
-    (λ _ e. absurd (omega (arith, e)))
-cut-by st ys body Mark h =
-    by-cond (λ (t : Taken). t .refusal ≡ 14 → length ys < 83) (st .begun) (λ _ e. absurd (omega (arith, e, mark-low (st .sup)))) (λ _ e. absurd (omega (arith, e)))
-cut-by st ys body Provisioning h =
-    by-cond (λ (t : Taken). t .refusal ≡ 14 → length ys < 83) (st .begun) (λ _ e. absurd (omega (arith, e)))
-    (λ _ e. absurd (omega (arith, e, provision-low (getD body 0 0) (sectionIn body) (pathIn body) (take 32 (drop 15 body)) (take 32 (drop 47 body)))))
-cut-by st ys body (Refused n) h = h .1
+cut-by st ys body Frame h e = absurd (framed-uncut st (kindOf Frame) body noCounts e)
+cut-by st ys body Mark h e = absurd (marked-uncut st e)
+cut-by st ys body Provisioning h e = absurd (provisioned-uncut st body e)
+cut-by st ys body Level h e = absurd (given-uncut st body e)
+cut-by st ys body LevelFrame h e = absurd (framed-uncut st (kindOf LevelFrame) body (countsIn body) e)
+cut-by st ys body (Refused n) h e = h .1 e
 
 pub cut-short : (st : State) (ys : List ℕ) → takenOf st ys .refusal ≡ 14 → length ys < 83
 unfolding takenOf
@@ -91,25 +63,26 @@ pub record Frames (s t : Supervisor) : Type 0 where
   pub more : t .second .frames .0 ≡ s .second .frames .0 + 1
   pub same : t .seconds ≡ s .seconds
 
-pub step-frames : (s : Supervisor) (overhead : List ℕ) (flags sm pm : ℕ) → stepOf s overhead flags sm pm .refusal ≡ 0 → Frames s (stepOf s overhead flags sm pm .supervisor)
-unfolding stepOf stepRefusal frameOf countOf oneFrame upOf
-step-frames s overhead flags sm pm e =
-    let z : stepRefusal s overhead flags sm pm ≡ 0 = sym (step-says s overhead flags sm pm) ∙ e in
-    let l : s .second .frames .0 < 400000 = ltb-true _ _ (passed 4 (stepChecks s overhead flags sm pm) refl z .1 .1 .1 .0) in
-    rw (eq-eqb (stepRefusal s overhead flags sm pm) 0 z) (record { room = l; more = rw (lt-ltb (s .second .frames .0) 400000 l); same = refl })
+pub frame-frames : (t : Tandem) (f : Sent) (counts : List ℕ) → refusalAt t f counts ≡ 0 → Frames (t .base) (framedAt t f counts .tandem .base)
+unfolding stepRefusal frameOf countOf oneFrame upOf
+frame-frames t f counts e =
+    let p = passed 4 (stepChecks (t .base) (f .overhead) (f .flags) (f .sm) (f .pm)) refl (plain-accepts t f counts e) in
+    let l : t .base .second .frames .0 < 400000 = ltb-true _ _ (p .1 .1 .1 .0) in
+    rw (frame-accepted t f counts e) (record { room = l; more = rw (lt-ltb (t .base .second .frames .0) 400000 l); same = refl })
 
-pub record Marks (s : Supervisor) (m : Marked) : Type 0 where
-  pub room : s .seconds < 4294967295
-  pub none : m .supervisor .second .frames .0 ≡ 0
-  pub more : m .supervisor .seconds ≡ s .seconds + 1
-  pub twenty : length (m .figures) ≡ 20
+pub record Marks (t : Tandem) (m : TandemMarked) : Type 0 where
+  pub room : t .base .seconds < 4294967295
+  pub none : m .tandem .base .second .frames .0 ≡ 0
+  pub more : m .tandem .base .seconds ≡ t .base .seconds + 1
+  pub figures : length (m .figures) ≡ 20 + 4 * length (t .levels)
 
-pub mark-marks : (s : Supervisor) → markOf s .refusal ≡ 0 → Marks s (markOf s)
-unfolding markOf nextSecond
-mark-marks s =
-    by-cond (λ (m : Marked). m .refusal ≡ 0 → Marks s m) (ltb (s .seconds) 4294967295)
-    (λ e _. record { room = ltb-true _ _ e; none = refl; more = refl; twenty = refl })
-    (λ _ e. absurd (omega (arith, e)))
+pub mark-marks : (t : Tandem) → tandem.markedOf t .refusal ≡ 0 → Marks t (tandem.markedOf t)
+unfolding tandem.markedOf markOf nextSecond
+mark-marks t = by (ltb (t .base .seconds) 4294967295) refl
+  where
+    by : (b : Bool) → ltb (t .base .seconds) 4294967295 ≡ b → tandem.markedOf t .refusal ≡ 0 → Marks t (tandem.markedOf t)
+    by true e _ = rw e (record { room = ltb-true _ _ e; none = refl; more = refl; figures = rw (length-append, figures-long (t .levels)) })
+    by false e z = let four : _≡_ {A = ℕ} 4 0 = rw e at z in absurd (omega arith)
 
 provision-none : (k : ℕ) (section path : Request) (snames pnames : List ℕ) → (provisionOf k section path snames pnames .supervisor .seconds ≡ 0) × (provisionOf k section path snames pnames .supervisor .second .frames .0 ≡ 0)
 unfolding provisionOf
@@ -118,54 +91,91 @@ provision-none k section path snames pnames =
 
 -- a scan starts so, and every accepted record keeps it so
 pub start-counted : Counted 0 0 startOf
-start-counted = record { fresh = λ _. (refl, refl); held = omega arith; seconds = omega arith; few = omega arith; twenty = refl; within = omega arith }
+start-counted = record {
+  fresh = λ _. (refl, refl);
+  held = omega arith;
+  seconds = omega arith;
+  few = omega arith;
+  figures = refl;
+  six = refl;
+  most = omega arith;
+  within = omega arith;
+}
 
 module _ (at n : ℕ) (st : State) (h : Counted at n st) where
   abbrev Kept : Record → Taken → Type 0
   Kept r t = t .refusal ≡ 0 → Counted (at + sizeOf r) (n + framesIn r) (t .state)
 
-  kept-by : (ys : List ℕ) (r : Record) (body : List ℕ) → Whole ys r → Kept r (appliedOf st r body)
-  unfolding framedOf markedOf provisionedOf
-  kept-by ys Frame body w =
-      by-cond (Kept Frame) (st .begun)
-      (λ _ e.
-      let f : Frames (st .sup) (stepIn st body .supervisor) = step-frames (st .sup) (take 64 body) (getD body 64 0) (getD body 65 0) (getD body 66 0) e in
-      record {
-        fresh = λ z. absurd (not-so z);
+  kept-frame : (kind size : ℕ) (body counts : List ℕ) → size ≤ 77 → framedOf st kind body counts .refusal ≡ 0
+      → Counted (at + size) (n + 1) (framedOf st kind body counts .state)
+  unfolding tandemBy
+  kept-frame kind size body counts short e =
+      let z = frame-taken st kind body counts e in
+      let f = frame-frames (st .sup) (sentIn body) counts (z .1) in
+      let l = frame-levels (st .sup) (sentIn body) counts (z .1) in
+      rw (z .2) (record {
+        fresh = λ b. absurd (not-so b);
         held = omega (arith, f .room, f .more);
         seconds = omega (arith, f .same, h .seconds);
         few = omega (arith, f .more, f .same, h .few);
-        twenty = h .twenty;
-        within = omega (arith, f .same, h .within);
+        figures = h .figures;
+        six = l .six ∙ h .six;
+        most = omega (arith, l .given, h .most);
+        within = omega (arith, f .same, l .given, h .within);
       })
-      (λ _ e. absurd (omega (arith, e)))
-  kept-by ys Mark body w =
-      by-cond (Kept Mark) (st .begun)
-      (λ _ e.
-      let f : Marks (st .sup) (markOf (st .sup)) = mark-marks (st .sup) e in
-      record {
-        fresh = λ z. absurd (not-so z);
+
+  kept-by : (ys : List ℕ) (r : Record) (body : List ℕ) → Whole ys r → Kept r (appliedOf st r body)
+  unfolding provisionedOf tandemBy
+  kept-by ys Frame body w e = kept-frame (kindOf Frame) 71 body noCounts (omega arith) e
+  kept-by ys LevelFrame body w e = kept-frame (kindOf LevelFrame) 77 body (countsIn body) (omega arith) e
+  kept-by ys Mark body w e =
+      let z = mark-taken st e in
+      let f = mark-marks (st .sup) (z .0) in
+      let l = mark-levels (st .sup) in
+      rw (z .1) (record {
+        fresh = λ b. absurd (not-so b);
         held = omega (arith, f .none);
         seconds = omega (arith, f .room, f .more);
         few = omega (arith, f .none, f .more, h .few, h .held);
-        twenty = f .twenty;
-        within = omega (arith, f .more, h .within);
+        figures = omega (arith, f .figures, h .six);
+        six = l .six ∙ h .six;
+        most = omega (arith, l .given, h .most);
+        within = omega (arith, f .more, l .given, h .within);
       })
+  kept-by ys Level body w e =
+      let z = level-taken st body e in
+      let b = given-base (recordRefusal (st .sup) (getD body 0 0) (levelIn body) (take 32 (drop 8 body))) (st .sup) (getD body 0 0) (levelIn body) (take 32 (drop 8 body)) in
+      let l = record-levels (st .sup) (getD body 0 0) (levelIn body) (take 32 (drop 8 body)) (h .six) (z .0) in
+      let six = l .six ∙ h .six in
+      rw (z .1) (record {
+        fresh = λ b. absurd (not-so b);
+        held = rw b (h .held);
+        seconds = rw b (h .seconds);
+        few = rw b (omega (arith, h .few));
+        figures = h .figures;
+        six = six;
+        most = omega (arith, six, few-given (giveIn st body .tandem .levels));
+        within = rw b (omega (arith, l .given, h .within));
+      })
+  kept-by ys Provisioning body w e =
+      by-cond (Kept Provisioning) (st .begun)
       (λ _ e. absurd (omega (arith, e)))
-  kept-by ys Provisioning body w =
-      by-cond (Kept Provisioning) (st .begun) (λ _ e. absurd (omega (arith, e)))
       (λ b e.
+      let a = answered-taken st _ false _ e in
       let f = provision-none (getD body 0 0) (sectionIn body) (pathIn body) (take 32 (drop 15 body)) (take 32 (drop 47 body)) in
       let z = h .fresh b in
-      record {
+      rw (a .1) (record {
         fresh = λ z. absurd (not-so z);
         held = omega (arith, f .1);
         seconds = omega (arith, f .0);
         few = omega (arith, f .0, f .1, z .1);
-        twenty = h .twenty;
+        figures = h .figures;
+        six = refl;
+        most = omega arith;
         within = omega (arith, f .0, z .0, z .1);
-      })
-  kept-by ys (Refused m) body w = λ e. absurd (omega (arith, w .0, e))
+      }))
+      e
+  kept-by ys (Refused m) body w e = absurd (omega (arith, w .0, e))
 
   pub taken-counted : (ys : List ℕ) → Kept (recordOf ys) (takenOf st ys)
   unfolding takenOf
@@ -193,25 +203,26 @@ module _ (tell : Bool) (s : List ℕ) (base m : ℕ) where
       further true z at n st l e c ih h = rw (z, run-told (drop at s) at n st e c) (next at n st e h)
       further false z at n st l e c ih h = rw (z, run-on (drop at s) at n st e c, drop-drop (sizeOf (recordOf (drop at s))) at s) (rw z at (ih (next at n st e h)))
 
--- an accepted record that closes no second is no mark: it has 71 bytes at least
-quiet-by : (st : State) (ys : List ℕ) (r : Record) (body : List ℕ) → Whole ys r → appliedOf st r body .refusal ≡ 0 → appliedOf st r body .closed ≡ false → 71 ≤ sizeOf r
-unfolding markedOf
-quiet-by st ys Frame body w = λ e c. omega arith
-quiet-by st ys Mark body w = by-cond (λ (t : Taken). t .refusal ≡ 0 → t .closed ≡ false → 71 ≤ 4) (st .begun) (λ _ e c. absurd (not-so c)) (λ _ e c. absurd (omega (arith, e)))
-quiet-by st ys Provisioning body w = λ e c. omega arith
-quiet-by st ys (Refused n) body w = λ e c. absurd (omega (arith, w .0, e))
+-- an accepted record that closes no second is no mark: it has 44 bytes at least
+quiet-by : (st : State) (ys : List ℕ) (r : Record) (body : List ℕ) → Whole ys r → appliedOf st r body .refusal ≡ 0 → appliedOf st r body .closed ≡ false → 44 ≤ sizeOf r
+quiet-by st ys Frame body w e c = omega arith
+quiet-by st ys Mark body w e c = absurd (not-so (sym (ap (λ (t : Taken). t .closed) (mark-taken st e .1)) ∙ c))
+quiet-by st ys Provisioning body w e c = omega arith
+quiet-by st ys Level body w e c = omega arith
+quiet-by st ys LevelFrame body w e c = omega arith
+quiet-by st ys (Refused n) body w e c = absurd (omega (arith, w .0, e))
 
-quiet : (st : State) (ys : List ℕ) → takenOf st ys .refusal ≡ 0 → takenOf st ys .closed ≡ false → 71 ≤ sizeOf (recordOf ys)
+quiet : (st : State) (ys : List ℕ) → takenOf st ys .refusal ≡ 0 → takenOf st ys .closed ≡ false → 44 ≤ sizeOf (recordOf ys)
 unfolding takenOf
 quiet st ys = quiet-by st ys (recordOf ys) (bodyOf (recordOf ys) ys) (whole-record ys)
 
--- Where a run stops: not before it began, within the list, at least four bytes on where a second was closed and 71 where a record was told,
+-- Where a run stops: not before it began, within the list, at least four bytes on where a second was closed and 44 where a record was told,
 -- and with fewer than 83 bytes left where a record was cut.
 pub record Stands (s : List ℕ) (at : ℕ) (r : Run) : Type 0 where
   pub later : at ≤ r .at
   pub inside : r .at ≤ length s
   pub further : r .stop ≡ stop.Closed → at + 4 ≤ r .at
-  pub told : r .stop ≡ stop.Told → at + 71 ≤ r .at
+  pub told : r .stop ≡ stop.Told → at + 44 ≤ r .at
   pub all : r .stop ≡ stop.More → r .at ≡ length s
   pub same : (n o : ℕ) → r .stop ≡ stop.Refused n o → o ≡ r .at
   pub cut : (o : ℕ) → r .stop ≡ stop.Refused 14 o → length s < r .at + 83

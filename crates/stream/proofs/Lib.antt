@@ -1,3 +1,5 @@
+pub mod Calls
+pub mod Taking
 pub mod Streams
 pub mod Counts
 pub mod Figures

@@ -1,15 +1,24 @@
--- How far a scan can come: no trace has more than 4,294,967,295 seconds of 400,000 frames. Assumes nothing.
+-- How far a scan can come: no trace has more than 4,294,967,295 seconds of 400,000 frames, and six levels' provisionings. Assumes nothing.
 use Prim.Native.Nat.{ℕ, _+_, _*_, _≤_}
 use mathlib.Core.Path.{_≡_}
+use mathlib.Core.Bool.{false, cond}
+use mathlib.Core.List.{List, [], _∷_}
 use lib.ListN.{length}
-use mathlib.Core.Bool.{false}
+use Rattle.tandem.specs.declared.Level.{Level}
 use Rattle.trace.specs.declared.State.{State}
 
--- what holds of the offset and of the frames accepted wherever a scan stands: both are below 2 ^ 57. And a line has twenty figures.
+-- how many levels are provisioned
+abbrev pub givenAmong : List Level → ℕ
+givenAmong [] = 0
+givenAmong (l ∷ ls) = cond (l .given) 1 0 + givenAmong ls
+
+-- What holds of the offset and of the frames accepted wherever a scan stands: both are below 2 ^ 57. A mark has 44 figures, and the levels are six.
 pub record Counted (at frames : ℕ) (st : State) : Type 0 where
   pub fresh : st .begun ≡ false → (at ≡ 0) × (frames ≡ 0)
-  pub held : st .sup .second .frames .0 ≤ 400000
-  pub seconds : st .sup .seconds ≤ 4294967295
-  pub few : frames ≤ 400000 * st .sup .seconds + st .sup .second .frames .0
-  pub twenty : length (st .last) ≡ 20
-  pub within : at ≤ 83 + 71 * frames + 4 * st .sup .seconds
+  pub held : st .sup .base .second .frames .0 ≤ 400000
+  pub seconds : st .sup .base .seconds ≤ 4294967295
+  pub few : frames ≤ 400000 * st .sup .base .seconds + st .sup .base .second .frames .0
+  pub figures : length (st .last) ≡ 44
+  pub six : length (st .sup .levels) ≡ 6
+  pub most : givenAmong (st .sup .levels) ≤ 6
+  pub within : at ≤ 83 + 44 * givenAmong (st .sup .levels) + 77 * frames + 4 * st .sup .base .seconds

@@ -4,43 +4,67 @@ use mathlib.Core.Path.{_≡_}
 use mathlib.Core.Bool.{Bool, true, false, cond}
 use mathlib.Core.List.{List, [], _∷_, _++_, map}
 use lib.Dec.{eqb}
-use lib.ListN.{getD, take}
+use lib.ListN.{getD, take, drop}
 use Rattle.causes.specs.Causes.{nothingStands}
 use Rattle.history.specs.History.{Frame as Sent, Event, frame, mark, standsAt, eventOf, after, Accepted}
-use Rattle.history.specs.Ledger.{Demand3, lineFigures, marks}
-use Rattle.supervisor.specs.Supervisor.{freshOf, markOf}
+use Rattle.history.specs.Ledger.{Demand3, lineFigures, marks as marksAmong}
+use Rattle.supervisor.specs.Supervisor.{freshOf}
 use Rattle.settings.specs.declared.Settings.{Settings}
 use Rattle.supervisor.specs.declared.Supervisor.{Supervisor}
+use Rattle.tandem.specs.Levels.{fourOf}
+use Rattle.tandem.specs.Tandem.{freshTandem, markedOf}
+use Rattle.tandem.specs.declared.Level.{Level as TandemLevel}
+use Rattle.tandem.specs.declared.Tandem.{Tandem}
+use Rattle.watch.specs.Watch.{LevelCall, gives, records, frames, marks, framedAt, tandemBy, AllTaken, eventsAmong}
 use Rattle.record.specs.declared.Record.{Record}
-use Rattle.record.specs.declared.Record.the-variants.{Frame, Mark, Provisioning, Refused}
+use Rattle.record.specs.declared.Record.the-variants.{Frame, Mark, Provisioning, Level, LevelFrame, Refused}
 use Rattle.trace.specs.declared.State.{State}
 use Rattle.trace.specs.declared.Taken.{Taken}
-use Rattle.record.specs.Record.{recordOf, recordsOf, bodyOf}
-use Rattle.trace.specs.Scan.{startOf, takenOf}
-use Rattle.stream.specs.Stream.{Note, second, change, Scan, scanOf}
+use Rattle.record.specs.Record.{kindOf, recordOf, recordsOf, bodyOf, framesIn, levelIn}
+use Rattle.trace.specs.Scan.{startOf, takenOf, noCounts, countsIn}
+use Rattle.stream.specs.Stream.{Note, second, change, lastListed, Scan, scanOf}
 
--- the event that a record is: a frame with its body's bytes, or a mark
-abbrev pub eventIn : Record → List ℕ → List Event
-eventIn Frame body = frame (record { overhead = take 64 body; flags = getD body 64 0; sm = getD body 65 0; pm = getD body 66 0 }) ∷ []
-eventIn Mark body = mark ∷ []
-eventIn Provisioning body = []
-eventIn (Refused n) body = []
+-- a frame's own bytes and counts, by its body
+abbrev pub sentIn : List ℕ → Sent
+sentIn body = record { overhead = take 64 body; flags = getD body 64 0; sm = getD body 65 0; pm = getD body 66 0 }
 
--- the frames and marks of records up to the first that is refused
-unfoldable pub eventsOver : List (List ℕ) → State → List Event
-eventsOver [] st = []
-eventsOver (ys ∷ rs) st =
+-- The call that a record is, with what its body has: a frame with six counts ("with kind 1 its violation count is 0"), a mark, or the provisioning of a
+-- level. The provisioning of line, section and path comes before them all.
+abbrev pub callIn : Record → List ℕ → List LevelCall
+callIn Frame body = frames (sentIn body) noCounts ∷ []
+callIn Mark body = marks ∷ []
+callIn Provisioning body = []
+callIn Level body = records (getD body 0 0) (levelIn body) (take 32 (drop 8 body)) ∷ []
+callIn LevelFrame body = frames (sentIn body) (countsIn body) ∷ []
+callIn (Refused n) body = []
+
+-- the calls of records up to the first that is refused
+unfoldable pub callsOver : List (List ℕ) → State → List LevelCall
+callsOver [] st = []
+callsOver (ys ∷ rs) st =
     let r : Record = recordOf ys in
     let t : Taken = takenOf st ys in
-    cond (eqb (t .refusal) 0) (eventIn r (bodyOf r ys) ++ eventsOver rs (t .state)) []
+    cond (eqb (t .refusal) 0) (callIn r (bodyOf r ys) ++ callsOver rs (t .state)) []
+
+-- the accepted calls of a trace
+abbrev pub callsOf : List ℕ → List LevelCall
+callsOf xs = callsOver (recordsOf xs) startOf
 
 -- the accepted frames and marks of a trace
 abbrev pub eventsOf : List ℕ → List Event
-eventsOf xs = eventsOver (recordsOf xs) startOf
+eventsOf xs = eventsAmong (callsOf xs)
+
+-- "a trace uses kind 1 or kind 5 and not both": the kind of its frames is that of the first
+unfoldable pub kindOver : List (List ℕ) → ℕ
+kindOver [] = 0
+kindOver (ys ∷ rs) = cond (eqb (framesIn (recordOf ys)) 1) (kindOf (recordOf ys)) (kindOver rs)
+
+abbrev pub kindIn : List ℕ → ℕ
+kindIn xs = kindOver (recordsOf xs)
 
 -- the settings of its provisioning, which is its first record
 abbrev pub settingsIn : List ℕ → Settings
-settingsIn xs = takenOf startOf xs .state .sup .settings
+settingsIn xs = takenOf startOf xs .state .sup .base .settings
 
 -- how many frames are among events
 abbrev pub framesAmong : List Event → ℕ
@@ -48,20 +72,51 @@ framesAmong [] = 0
 framesAmong (frame f ∷ es) = 1 + framesAmong es
 framesAmong (mark ∷ es) = framesAmong es
 
--- the state after the provisioning, and after each event that is accepted: a frame leaves what stands after it, a mark its figures
+-- the state after the provisioning
 abbrev pub provisioned : Settings → State
-provisioned p = record { begun = true; sup = freshOf p; last = startOf .last; standing = nothingStands }
+provisioned p =
+    record {
+      begun = true;
+      kind = 0;
+      sup = freshTandem (freshOf p);
+      last = startOf .last;
+      standing = nothingStands;
+      levels = startOf .levels;
+    }
 
-abbrev pub afterEvent : State → Event → State
-afterEvent st (frame f) = record { begun = true; sup = eventOf (st .sup) (frame f); last = st .last; standing = standsAt (st .sup) f }
-afterEvent st mark = record { begun = true; sup = eventOf (st .sup) mark; last = markOf (st .sup) .figures; standing = st .standing }
+-- The state after each call that is accepted, k being the kind of the trace's frames: the supervisor is the one handed back; a frame leaves what stands
+-- after it of line, section and path and of the levels, a mark its figures.
+abbrev pub afterCall : ℕ → State → LevelCall → State
+afterCall k st (gives n r names) =
+    record { begun = true; kind = st .kind; sup = tandemBy (st .sup) (gives n r names); last = st .last; standing = st .standing; levels = st .levels }
+afterCall k st (records n r names) =
+    record { begun = true; kind = st .kind; sup = tandemBy (st .sup) (records n r names); last = st .last; standing = st .standing; levels = st .levels }
+afterCall k st (frames f counts) =
+    record {
+      begun = true;
+      kind = k;
+      sup = tandemBy (st .sup) (frames f counts);
+      last = st .last;
+      standing = standsAt (st .sup .base) f;
+      levels = framedAt (st .sup) f counts .stands;
+    }
+afterCall k st marks =
+    record { begun = true; kind = st .kind; sup = tandemBy (st .sup) marks; last = markedOf (st .sup) .figures; standing = st .standing; levels = st .levels }
 
--- What events tell from a state on, n frames being accepted before them: a mark the figures of its second; a frame, where every record is told,
--- its number and the states before and after it.
-unfoldable pub toldBy : Bool → ℕ → State → List Event → List Note
-toldBy tell n st [] = []
-toldBy tell n st (frame f ∷ es) = cond tell (change (n + 1) st (afterEvent st (frame f)) ∷ []) [] ++ toldBy tell (n + 1) (afterEvent st (frame f)) es
-toldBy tell n st (mark ∷ es) = second (markOf (st .sup) .figures) ∷ toldBy tell n (afterEvent st mark) es
+-- What a call tells: a mark the figures of its second's line; any other, where every record is told, the number of frames accepted with it, and the
+-- states before and after it.
+abbrev pub noteOf : Bool → ℕ → State → State → LevelCall → List Note
+noteOf tell n was is (gives m r names) = cond tell (change n was is ∷ []) []
+noteOf tell n was is (records m r names) = cond tell (change n was is ∷ []) []
+noteOf tell n was is (frames f counts) = cond tell (change n was is ∷ []) []
+noteOf tell n was is marks = second (lastListed is) ∷ []
+
+-- what calls tell from a state on, n frames being accepted before them
+unfoldable pub toldBy : Bool → ℕ → ℕ → State → List LevelCall → List Note
+toldBy tell k n st [] = []
+toldBy tell k n st (c ∷ cs) =
+    let m : ℕ = n + framesAmong (eventsAmong (c ∷ [])) in
+    noteOf tell m st (afterCall k st c) c ++ toldBy tell k m (afterCall k st c) cs
 
 -- what is told of the provisioning, where it is accepted and every record is told
 abbrev pub toldFirst : Bool → List ℕ → List Note
@@ -80,17 +135,33 @@ linesFrom n s fs [] = []
 linesFrom n s fs (frame f ∷ es) = linesFrom n s (fs ++ (f ∷ [])) es
 linesFrom n s fs (mark ∷ es) = lineFigures n s fs ∷ linesFrom (n + 1) (eventOf (after s (map frame fs)) mark) [] es
 
--- Demand 3 for the reader, of every trace: its frames and marks up to the first record refused are accepted; all that its scan tells, in its
--- order, is what they tell; the figures told are those of the lines S, a line for each mark; and each mark closes a second as demand 3 says.
+-- "the four figures of every provisioned level, lowest level first"
+unfoldable pub givenFigures : List TandemLevel → List ℕ
+givenFigures [] = []
+givenFigures (l ∷ ls) = cond (l .given) (fourOf l) [] ++ givenFigures ls
+
+-- the levels' figures in the lines S of calls, in their order, by the levels that the calls before each mark hand back
+unfoldable pub groupsFrom : Tandem → List LevelCall → List (List ℕ)
+groupsFrom t [] = []
+groupsFrom t (gives n r names ∷ cs) = groupsFrom (tandemBy t (gives n r names)) cs
+groupsFrom t (records n r names ∷ cs) = groupsFrom (tandemBy t (records n r names)) cs
+groupsFrom t (frames f counts ∷ cs) = groupsFrom (tandemBy t (frames f counts)) cs
+groupsFrom t (marks ∷ cs) = givenFigures (t .levels) ∷ groupsFrom (tandemBy t marks) cs
+
+-- Demand 3 for the reader, of every trace: its calls up to the first record refused are accepted, and so are their frames and marks by line, section and
+-- path alone; all that its scan tells, in its order, is what they tell; the first twenty of the figures told are those of the lines S by the frames and
+-- marks alone, a line for each mark; the levels' follow them; and each mark closes a second as demand 3 says.
 pub record ReaderDemand3 (tell : Bool) (xs : List ℕ) : Type 0 where
+  pub calls : AllTaken (freshTandem (freshOf (settingsIn xs))) (callsOf xs)
   pub accepted : Accepted (freshOf (settingsIn xs)) (eventsOf xs)
-  pub told : scanOf tell xs .told ≡ toldFirst tell xs ++ toldBy tell 0 (provisioned (settingsIn xs)) (eventsOf xs)
-  pub figures : figuresTold (scanOf tell xs .told) ≡ linesFrom 1 (freshOf (settingsIn xs)) [] (eventsOf xs)
+  pub told : scanOf tell xs .told ≡ toldFirst tell xs ++ toldBy tell (kindIn xs) 0 (provisioned (settingsIn xs)) (callsOf xs)
+  pub figures : map (take 20) (figuresTold (scanOf tell xs .told)) ≡ linesFrom 1 (freshOf (settingsIn xs)) [] (eventsOf xs)
+  pub levels : map (drop 20) (figuresTold (scanOf tell xs .told)) ≡ groupsFrom (freshTandem (freshOf (settingsIn xs))) (callsOf xs)
   pub demand : (earlier later : List Event) → eventsOf xs ≡ earlier ++ (mark ∷ later) → Demand3 (settingsIn xs) earlier
 
 -- "E: marks and frames accepted": a scan counts the marks and the frames accepted.
 pub record ReaderCounts (tell : Bool) (xs : List ℕ) : Type 0 where
-  pub marks : scanOf tell xs .state .sup .seconds ≡ marks (eventsOf xs)
+  pub marks : scanOf tell xs .state .sup .base .seconds ≡ marksAmong (eventsOf xs)
   pub frames : scanOf tell xs .frames ≡ framesAmong (eventsOf xs)
 
 -- of what was told, the seconds

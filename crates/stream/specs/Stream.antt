@@ -1,4 +1,4 @@
--- The scan of a whole trace, and the scan of it in pieces (document 01, "Trace records and the listing"). Assumes nothing.
+-- The scan of a whole trace, and the scan of it in pieces (document 01, "Trace records and the listing"; document 02, K1). Assumes nothing.
 use Prim.Native.Nat.{ℕ, _+_}
 use mathlib.Core.Path.{_≡_}
 use mathlib.Core.Bool.{Bool, true, cond}
@@ -12,9 +12,15 @@ use Rattle.trace.specs.declared.Stop.{Stop}
 use Rattle.trace.specs.declared.Stop.the-variants as stop
 use Rattle.trace.specs.declared.State.{State}
 use Rattle.record.specs.Record.{recordOf, recordsOf, sizeOf, framesIn}
+use Rattle.tandem.specs.Levels.{listedOf}
 use Rattle.trace.specs.Scan.{takenOf, startOf}
 
--- What is told of an accepted record: the figures of the second that it closed; or, where every record is told, the number of frames accepted
+-- The figures of the S line of the second that was closed last: "Each S line gains the four figures of every provisioned level, lowest level
+-- first" (document 02, K1).
+abbrev pub lastListed : State → List ℕ
+lastListed st = listedOf (st .sup .levels) (st .last)
+
+-- What is told of an accepted record: the figures of the line of the second that it closed; or, where every record is told, the number of frames accepted
 -- with it, and the states before and after it.
 pub data Note : Type 0 where
   second : List ℕ → Note
@@ -40,7 +46,7 @@ before l c = record { told = l ++ c .told; state = c .state; at = c .at; frames 
 
 -- what is told of an accepted record, n frames being accepted with it, and the state before it being st
 abbrev pub noted : Bool → ℕ → State → Taken → List Note
-noted tell n st t = cond (t .closed) (second (t .state .last) ∷ []) (cond tell (change n st (t .state) ∷ []) [])
+noted tell n st t = cond (t .closed) (second (lastListed (t .state)) ∷ []) (cond tell (change n st (t .state) ∷ []) [])
 
 -- The scan of records at an offset, n frames before it. "The scan ends at the first record refused."
 unfoldable pub scanOver : Bool → List (List ℕ) → ℕ → ℕ → State → Scan
@@ -99,5 +105,5 @@ scanAfter tell base n st s r = by-stop (r .stop)
     by-stop : Stop → Scan
     by-stop stop.More = stopped (r .state) (base + r .at) (n + r .frames) 0 (drop (r .at) s)
     by-stop (stop.Refused number offset) = stopped (r .state) (base + offset) (n + r .frames) number (drop offset s)
-    by-stop stop.Closed = before (second (r .state .last) ∷ []) on
+    by-stop stop.Closed = before (second (lastListed (r .state)) ∷ []) on
     by-stop stop.Told = before (change (n + r .frames) st (r .state) ∷ []) on

@@ -6,11 +6,9 @@ use lib.Dec.{leb, ltb, eqb}
 use lib.ListN.{length, replicate}
 use Rattle.answer.specs.Checks.{Check, check, firstOf}
 use Rattle.overhead.specs.Overhead.{overheadOf}
-use Rattle.filter.specs.Filter.{filterOf}
 use Rattle.layer.specs.declared.Layer.{Layer}
-use Rattle.layer.specs.Layer.{withDeg}
 use Rattle.causes.specs.Causes.{reportOf, noReport}
-use Rattle.frame.specs.Layers.{layersOf, standingOf, freshLayers}
+use Rattle.frame.specs.Layers.{layersOf, standingOf, degraded, freshLayers}
 use Rattle.second.specs.Second.{countOf, closedOf, figuresOf, freshSecond}
 use Rattle.settings.specs.Settings.{settingsRefusal, optionsOf}
 use Rattle.causes.specs.declared.Standing.{Standing}
@@ -76,11 +74,6 @@ stepOf s overhead flags sm pm =
     cond (eqb refusal 0)
     (record { refusal = 0; report = reportOf (standsAfter s overhead flags) sm pm; supervisor = frameOf s overhead flags sm pm })
     (record { refusal = refusal; report = noReport; supervisor = s })
-
--- "dDEG, decided at a mark: a second is bad if its near-end block count, after discard, is at least DEGThr. DEGM bad seconds in a
--- row raise it, DEGM others clear it. SSF doesn't force it." (6.2.3.4, 6.2.3.5)
-abbrev pub degraded : Layer → Options → ℕ → Layer
-degraded l p near = withDeg l (filterOf (l .deg) (p .degm) false (leb (p .thr) near))
 
 -- the layers after an accepted mark
 abbrev pub markedLayers : Supervisor → Layers

@@ -9,7 +9,8 @@ use settings::Request;
 use settings::Settings;
 ghost use mathlib.Core.Path.{_≡_};
 ghost use lib.ListN.{length};
-ghost use Rattle.supervisor.specs.Supervisor.{freshOf, blankOptions, blankSupervisor, provisionOf, stepRefusal, stepOf, degraded, markOf, layerAt, tracedOf};
+ghost use Rattle.frame.specs.Layers.{degraded};
+ghost use Rattle.supervisor.specs.Supervisor.{freshOf, blankOptions, blankSupervisor, provisionOf, stepRefusal, stepOf, markOf, layerAt, tracedOf};
 
 // `seconds`: the seconds closed.
 pub struct Supervisor {

@@ -4,21 +4,23 @@ use mathlib.Core.Path.{_≡_, sym, ap, _∙_}
 use mathlib.Core.Bool.{true}
 use mathlib.Core.List.{[], _∷_}
 use native.Mathlib.Omega.{arith}
-use lib.ListN.{length, getD}
+use lib.ListN.{length, getD, replicate}
 use contract.Lifetimes.{Lfts}
 use borrow.Fn.Kinds.{Dens, endedOf}
 use denote.Triple.Clauses.{AtExit}
 use denote.Ref.{now}
 use Rattle.answer.proofs.Cond.{not-so}
 use Rattle.settings.specs.Settings.{ceilingOf, thrGood, degmGood}
+use Rattle.level.specs.declared.LevelStands.{LevelStands}
 use Rattle.supervisor.specs.Supervisor.{markOf}
 use Rattle.supervisor.specs.declared.Traced.{Traced}
-use Rattle.tandem.specs.Levels.{blankLevel, lowTo}
+use Rattle.tandem.specs.Levels.{blankLevel, givenGroups, lowTo}
 use Rattle.tandem.specs.Tandem.{giveRefusal, recordRefusal, givenBy, frameRefusal, framedOf, markedOf, levelReport, levelTraced}
 use Rattle.tandem.specs.declared.Tandem.{Tandem}
 use Rattle.tandem.specs.declared.Given.{Given}
 use Rattle.tandem.specs.declared.TandemStepped.{TandemStepped}
 use Rattle.tandem.specs.declared.TandemMarked.{TandemMarked}
+use Rattle.tandem.specs.declared.Listed.{Listed}
 use Rattle.tandem.specs.declared.LevelReport.{LevelReport}
 use Rattle.tandem.proofs.fresh_tandem.Kinds as fresh-tandem-kinds
 use Rattle.tandem.proofs.fresh_tandem.Reads as fresh-tandem-reads
@@ -28,8 +30,12 @@ use Rattle.tandem.proofs.give_record.Kinds as give-record-kinds
 use Rattle.tandem.proofs.give_record.Reads as give-record-reads
 use Rattle.tandem.proofs.step.Kinds as step-kinds
 use Rattle.tandem.proofs.step.Reads as step-reads
+use Rattle.tandem.proofs.nothing_stands.Kinds as nothing-stands-kinds
+use Rattle.tandem.proofs.nothing_stands.Reads as nothing-stands-reads
 use Rattle.tandem.proofs.mark.Kinds as mark-kinds
 use Rattle.tandem.proofs.mark.Reads as mark-reads
+use Rattle.tandem.proofs.listed_figures.Kinds as listed-figures-kinds
+use Rattle.tandem.proofs.listed_figures.Reads as listed-figures-reads
 use Rattle.tandem.proofs.level_report.Kinds as level-report-kinds
 use Rattle.tandem.proofs.level_report.Reads as level-report-reads
 use Rattle.tandem.proofs.level_trace.Kinds as level-trace-kinds
@@ -66,11 +72,26 @@ pub full-before-count : (κs : Lfts 1) (a : Dens κs step-kinds.ps) (x : TandemS
 unfolding framedOf frameRefusal lowTo
 full-before-count κs a x s bytes flags sm pm counts four e = let h : _≡_ {A = ℕ} 3 4 = simp (e, bytes, flags, sm, pm, counts) at four in omega arith
 
+-- where nothing stands neither SSF nor a disabled TIM does
+pub none-fails : (κs : Lfts 0) (a : Dens κs nothing-stands-kinds.ps) (x : LevelStands) (s : AtExit (endedOf 0 nothing-stands-kinds.ps nothing-stands-kinds.r) κs)
+    → x .ssf ≡ true → nothing-stands-reads.Post κs a x s → ⊥
+none-fails κs a x s ssf e = not-so (sym ssf ∙ ap (λ (d : LevelStands). d .ssf) e)
+
+pub none-disabled : (κs : Lfts 0) (a : Dens κs nothing-stands-kinds.ps) (x : LevelStands) (s : AtExit (endedOf 0 nothing-stands-kinds.ps nothing-stands-kinds.r) κs)
+    → x .disabled ≡ true → nothing-stands-reads.Post κs a x s → ⊥
+none-disabled κs a x s disabled e = not-so (sym disabled ∙ ap (λ (d : LevelStands). d .disabled) e)
+
 -- a mark is refused at 4,294,967,295 seconds
 pub mark-late : (κs : Lfts 0) (a : Dens κs mark-kinds.ps) (x : TandemMarked) (s : AtExit (endedOf 0 mark-kinds.ps mark-kinds.r) κs)
     → a .0 .base .seconds ≡ 4294967295 → x .refusal ≡ 0 → mark-reads.Post κs a x s → ⊥
 unfolding markedOf markOf
 mark-late κs a x s last zero e = let h : _≡_ {A = ℕ} 4 0 = simp (e, last) at zero in omega arith
+
+-- no level provisioned: the line has twenty figures
+pub all-listed : (κs : Lfts 0) (a : Dens κs listed-figures-kinds.ps) (x : Listed) (s : AtExit (endedOf 0 listed-figures-kinds.ps listed-figures-kinds.r) κs)
+    → a .0 ≡ replicate 6 blankLevel → a .1 .0 ≡ replicate 44 0 → x .n ≡ 44 → listed-figures-reads.Post κs a x s → ⊥
+unfolding givenGroups
+all-listed κs a x s none zeros all e = let h : _≡_ {A = ℕ} 20 44 = simp (e, none, zeros) at all in omega arith
 
 -- there is no level 0, and no level 7
 pub level-zero : (κs : Lfts 0) (a : Dens κs level-report-kinds.ps) (x : LevelReport) (s : AtExit (endedOf 0 level-report-kinds.ps level-report-kinds.r) κs)

@@ -3,9 +3,10 @@ use Prim.Native.Nat.{ℕ, zero, suc, _-_}
 use mathlib.Core.Bool.{Bool, true, false, cond, not, _&&_}
 use mathlib.Core.List.{List, [], _∷_, _++_}
 use lib.Dec.{leb}
-use lib.ListN.{getD, set, replicate}
+use lib.ListN.{length, getD, take, drop, set, replicate}
 use Rattle.answer.specs.Bits.{flag}
 use Rattle.answer.specs.Each.{eachFrom}
+use Rattle.answer.specs.Over.{over}
 use Rattle.overhead.specs.declared.Field.{Field}
 use Rattle.overhead.specs.Overhead.{levelField}
 use Rattle.alignment.specs.declared.Multi.{Multi}
@@ -15,6 +16,7 @@ use Rattle.level.specs.declared.LevelFrame.{LevelFrame}
 use Rattle.level.specs.Level.{levelFrame, levelCount, levelClosed, levelMarked, freshLevel, freshLevelSecond}
 use Rattle.supervisor.specs.Supervisor.{blankOptions}
 use Rattle.tandem.specs.declared.Level.{Level}
+use Rattle.tandem.specs.declared.Listed.{Listed}
 
 -- a level as it is provisioned, no frame met; and one that is not, which holds blanks
 abbrev pub givenLevel : Options → Level
@@ -66,6 +68,19 @@ markedLevels ls = eachFrom markRule 1 ls
 unfoldable pub levelFigures : List Level → List ℕ
 levelFigures [] = []
 levelFigures (l ∷ ls) = fourOf l ++ levelFigures ls
+
+-- "Each S line gains the four figures of every provisioned level, lowest level first": of figures, four to a level, those of the provisioned ones
+unfoldable pub givenGroups : List Level → List ℕ → List ℕ
+givenGroups [] figures = []
+givenGroups (l ∷ ls) figures = cond (l .given) (take 4 figures) [] ++ givenGroups ls (drop 4 figures)
+
+-- the figures of an S line, of the 44 of a mark: the twenty as they were, then those groups
+abbrev pub listedOf : List Level → List ℕ → List ℕ
+listedOf ls figures = take 20 figures ++ givenGroups ls (drop 20 figures)
+
+-- figures in the room of 44, zeros behind them, and how many they are
+abbrev pub listedIn : List ℕ → Listed
+listedIn v = record { figures = over (replicate 44 0) 0 v; n = length v }
 
 -- "level not 1 to 6"
 abbrev pub isLevel : ℕ → Bool

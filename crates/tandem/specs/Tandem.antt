@@ -6,6 +6,7 @@ use mathlib.Core.List.{List, [], _∷_, _++_}
 use lib.Dec.{leb, ltb, eqb}
 use lib.ListN.{length, replicate}
 use Rattle.answer.specs.Checks.{Check, check, firstOf}
+use Rattle.answer.specs.Each.{eachFrom}
 use Rattle.alignment.specs.declared.Multi.{Multi}
 use Rattle.settings.specs.Settings.{thrGood, degmGood, optionsOf}
 use Rattle.settings.specs.declared.Request.{Request}
@@ -77,8 +78,8 @@ givenBy refusal t n r names =
 abbrev pub giveOf : Tandem → ℕ → Request → List ℕ → Given
 giveOf t n r names = givenBy (giveRefusal t n r names) t n r names
 
-abbrev pub recordOf : Tandem → ℕ → Request → List ℕ → Given
-recordOf t n r names = givenBy (recordRefusal t n r names) t n r names
+abbrev pub recordedOf : Tandem → ℕ → Request → List ℕ → Given
+recordedOf t n r names = givenBy (recordRefusal t n r names) t n r names
 
 -- a frame's refusals 1 to 4 as they were (document 01), each of the six counts being among those of 3, its level provisioned or not
 abbrev pub frameChecks : Tandem → List ℕ → ℕ → ℕ → ℕ → List ℕ → List Check
@@ -92,20 +93,37 @@ frameChecks t overhead flags sm pm counts =
 unfoldable pub frameRefusal : Tandem → List ℕ → ℕ → ℕ → ℕ → List ℕ → ℕ
 frameRefusal t overhead flags sm pm counts = firstOf (frameChecks t overhead flags sm pm counts)
 
--- a frame: the supervisor's own, then each level by the path's SSF in it and the multiframe after it: "Each level takes path SSF"
+-- of a level that is not provisioned nothing stands
+abbrev pub nothing : LevelStands
+nothing = record { ssf = false; status = Clear; tim = false; disabled = false; bdi = false; iae = false; biae = false; deg = false }
+
+unfoldable pub levelShown : Level → Bool → LevelStands
+levelShown l ssf = cond (l .given) (levelStands (l .state) (l .options) ssf) nothing
+
+abbrev pub shownRule : Bool → ℕ → Level → LevelStands
+shownRule ssf n l = levelShown l ssf
+
+-- what stands of each of the six
+abbrev pub shownLevels : List Level → Bool → List LevelStands
+shownLevels ls ssf = eachFrom (shownRule ssf) 1 ls
+
+-- A frame: the supervisor's own, then each level by the path's SSF in it and the multiframe after it: "Each level takes path SSF". What stands of each
+-- level after it is told.
 unfoldable pub framedOf : Tandem → List ℕ → ℕ → ℕ → ℕ → List ℕ → TandemStepped
 framedOf t overhead flags sm pm counts =
     let refusal : ℕ = frameRefusal t overhead flags sm pm counts in
     let a : Stepped = stepOf (t .base) overhead flags sm pm in
     let ssf : Bool = a .report .path .ssf in
     let m : Multi = a .supervisor .layers .align .multi in
+    let levels : List Level = framedLevels (t .levels) ssf m overhead counts in
     cond (eqb refusal 0)
     (record {
       refusal = 0;
       report = a .report;
-      tandem = record { base = a .supervisor; flags = flags; levels = framedLevels (t .levels) ssf m overhead counts };
+      stands = shownLevels levels ssf;
+      tandem = record { base = a .supervisor; flags = flags; levels = levels };
     })
-    (record { refusal = refusal; report = noReport; tandem = t })
+    (record { refusal = refusal; report = noReport; stands = replicate 6 nothing; tandem = t })
 
 -- a mark: the supervisor's own, with its twenty figures, and each level's, with its four
 unfoldable pub markedOf : Tandem → TandemMarked
@@ -122,13 +140,6 @@ markedOf t =
 -- the path's SSF as it stands: by what the supervisor holds, and the flags of the last frame
 unfoldable pub ssfNow : Supervisor → ℕ → Bool
 ssfNow s flags = pathSsf (standingOf (s .settings) (s .layers) flags)
-
--- of a level that is not provisioned nothing stands
-abbrev pub nothing : LevelStands
-nothing = record { ssf = false; status = Clear; tim = false; disabled = false; bdi = false; iae = false; biae = false; deg = false }
-
-unfoldable pub levelShown : Level → Bool → LevelStands
-levelShown l ssf = cond (l .given) (levelStands (l .state) (l .options) ssf) nothing
 
 -- what is told of a level, as it stands after the last frame and mark; 18 "level not 1 to 6"
 unfoldable pub levelReport : Tandem → ℕ → LevelReport

@@ -14,12 +14,13 @@ use settings::Request;
 use supervisor::Supervisor;
 use supervisor::Traced;
 ghost use mathlib.Core.Path.{_≡_};
-ghost use mathlib.Core.List.{_++_};
+ghost use mathlib.Core.Bool.{cond};
+ghost use mathlib.Core.List.{[], _++_};
 ghost use Prim.Native.Nat.{_+_, _≤_};
 ghost use lib.ListN.{length};
 ghost use Rattle.answer.specs.Over.{over};
-ghost use Rattle.tandem.specs.Levels.{givenLevel, blankLevel, steppedLevel, markedLevel, fourOf, framedLevels, markedLevels, levelFigures, levelAt, freeAt, placedAt, lowTo};
-ghost use Rattle.tandem.specs.Tandem.{freshTandem, begun, requestRefusal, giveRefusal, recordRefusal, withLevel, giveOf, recordOf, frameRefusal, framedOf, markedOf, ssfNow, levelShown, levelReport, levelTraced};
+ghost use Rattle.tandem.specs.Levels.{givenLevel, blankLevel, steppedLevel, markedLevel, fourOf, framedLevels, markedLevels, levelFigures, listedOf, listedIn, levelAt, freeAt, placedAt, lowTo};
+ghost use Rattle.tandem.specs.Tandem.{freshTandem, begun, requestRefusal, giveRefusal, recordRefusal, withLevel, giveOf, recordedOf, frameRefusal, framedOf, markedOf, ssfNow, nothing, levelShown, shownLevels, levelReport, levelTraced};
 
 // A level: whether it is provisioned, and what is kept of it.
 pub struct Level {
@@ -42,9 +43,11 @@ pub struct Given {
     pub tandem: Tandem,
 }
 
+// `stands` is what stands of levels 1 to 6 after the frame.
 pub struct TandemStepped {
     pub refusal: u8,
     pub report: Report,
+    pub stands: [LevelStands; 6],
     pub tandem: Tandem,
 }
 
@@ -53,6 +56,12 @@ pub struct TandemMarked {
     pub refusal: u8,
     pub figures: [u32; 44],
     pub tandem: Tandem,
+}
+
+// The figures of an S line: the first n of 44, zeros behind them.
+pub struct Listed {
+    pub figures: [u32; 44],
+    pub n: usize,
 }
 
 pub struct LevelReport {
@@ -222,7 +231,7 @@ pub fn give(t: Tandem, n: u8, r: Request, names: &[u8]) -> Given
 
 // A level provisioned by a record of a trace.
 pub fn give_record(t: Tandem, n: u8, r: Request, names: &[u8]) -> Given
-    ensures { λ x. ⌜ x ≡ recordOf t n r (now (names .entry)) ⌝ }
+    ensures { λ x. ⌜ x ≡ recordedOf t n r (now (names .entry)) ⌝ }
 {
     let refusal = record_refusal(t, n, r, names);
     if refusal == 0 {
@@ -260,18 +269,64 @@ fn one_step(l: Level, ssf: bool, m: Multi, f: Field, violations: u8) -> Level
     l
 }
 
-// The six levels after a frame: the level at index i has number i + 1.
+// The six levels after a frame: the level at index i has number i + 1. One that is not provisioned costs a test, and is not moved.
 fn levels_step(ls: [Level; 6], ssf: bool, m: Multi, overhead: &[u8], counts: [u8; 6]) -> [Level; 6]
     ensures { λ r. ⌜ r ≡ framedLevels ls ssf m (now (overhead .entry)) counts ⌝ }
 {
     let mut levels = ls;
     for i in 0..6 {
-        let f = overhead::level_field(overhead, i as u8 + 1);
-        let l = ls[i];
-        let next = one_step(l, ssf, m, f, counts[i]);
-        levels[i] = next;
+        if levels[i].given {
+            let f = overhead::level_field(overhead, i as u8 + 1);
+            let l = levels[i];
+            let next = one_step(l, ssf, m, f, counts[i]);
+            levels[i] = next;
+        }
     }
     levels
+}
+
+// Of a level that is not provisioned nothing stands.
+pub fn nothing_stands() -> LevelStands
+    ensures { λ r. ⌜ r ≡ nothing ⌝ }
+{
+    LevelStands {
+        ssf: false,
+        status: Status::Clear,
+        tim: false,
+        disabled: false,
+        bdi: false,
+        iae: false,
+        biae: false,
+        deg: false,
+    }
+}
+
+// What stands of a level; nothing where it is not provisioned.
+fn shown(l: Level, ssf: bool) -> LevelStands
+    ensures { λ r. ⌜ r ≡ levelShown l ssf ⌝ }
+{
+    if l.given {
+        let s = l.state;
+        let p = l.options;
+        return level::level_stands(s, p, ssf);
+    }
+    nothing_stands()
+}
+
+// What stands of each of the six levels.
+fn levels_shown(ls: [Level; 6], ssf: bool) -> [LevelStands; 6]
+    ensures { λ r. ⌜ r ≡ shownLevels ls ssf ⌝ }
+{
+    let none = nothing_stands();
+    let mut stands = [none; 6];
+    for i in 0..6 {
+        if ls[i].given {
+            let l = ls[i];
+            let d = shown(l, ssf);
+            stands[i] = d;
+        }
+    }
+    stands
 }
 
 // Each of the six counts is at most 8.
@@ -309,10 +364,13 @@ pub fn step(t: Tandem, overhead: &[u8], flags: u8, sm: u8, pm: u8, counts: [u8; 
         let report = a.report;
         let next = a.supervisor;
         let m = next.layers.align.multi;
-        let after = levels_step(before, report.path.ssf, m, overhead, counts);
+        let ssf = report.path.ssf;
+        let after = levels_step(before, ssf, m, overhead, counts);
+        let stands = levels_shown(after, ssf);
         return TandemStepped {
             refusal: 0,
             report: report,
+            stands: stands,
             tandem: Tandem {
                 base: next,
                 flags: flags,
@@ -321,9 +379,11 @@ pub fn step(t: Tandem, overhead: &[u8], flags: u8, sm: u8, pm: u8, counts: [u8; 
         };
     }
     let none = causes::no_report();
+    let blank = nothing_stands();
     TandemStepped {
         refusal: refusal,
         report: none,
+        stands: [blank; 6],
         tandem: t,
     }
 }
@@ -354,9 +414,11 @@ fn levels_mark(ls: [Level; 6]) -> [Level; 6]
 {
     let mut levels = ls;
     for i in 0..6 {
-        let l = ls[i];
-        let next = one_mark(l);
-        levels[i] = next;
+        if levels[i].given {
+            let l = levels[i];
+            let next = one_mark(l);
+            levels[i] = next;
+        }
     }
     levels
 }
@@ -426,6 +488,32 @@ pub fn mark(t: Tandem) -> TandemMarked
     }
 }
 
+// A level's figures written over others from a place on, where it is provisioned; the place behind them is handed back.
+fn put_group(out: &mut [u32], at: usize, given: bool, four: &[u32]) -> usize
+    requires { ⌜ at + length (now four) ≤ length (now out) ⌝ }
+    ensures { λ r. ⌜ (now (out .exit) ≡ over (now (out .entry)) at (cond given (now (four .entry)) [])) × (r ≡ at + length (cond given (now (four .entry)) [])) ⌝ }
+{
+    if given {
+        put(out, at, four);
+        return at + four.len();
+    }
+    at
+}
+
+// The figures of an S line, of those of a mark: the twenty, then the four of each provisioned level.
+pub fn listed_figures(ls: [Level; 6], figures: [u32; 44]) -> Listed
+    ensures { λ r. ⌜ r ≡ listedIn (listedOf ls figures) ⌝ }
+{
+    let mut out = [0u32; 44];
+    put(&mut out, 0, &figures[0..20]);
+    let mut n = 20;
+    for i in 0..6 {
+        let given = ls[i].given;
+        n = put_group(&mut out, n, given, &figures[20 + 4 * i..24 + 4 * i]);
+    }
+    Listed { figures: out, n: n }
+}
+
 // The path's SSF as it stands.
 fn ssf_now(s: Supervisor, flags: u8) -> bool
     ensures { λ r. ⌜ r ≡ ssfNow s flags ⌝ }
@@ -439,27 +527,6 @@ fn ssf_now(s: Supervisor, flags: u8) -> bool
     let tim = layer::tim(l, s.settings.section.mode, names);
     let acts = causes::tim_acts(tim, s.settings.section.disabled);
     ssf | acts
-}
-
-// What stands of a level; nothing where it is not provisioned.
-fn shown(l: Level, ssf: bool) -> LevelStands
-    ensures { λ r. ⌜ r ≡ levelShown l ssf ⌝ }
-{
-    if l.given {
-        let s = l.state;
-        let p = l.options;
-        return level::level_stands(s, p, ssf);
-    }
-    LevelStands {
-        ssf: false,
-        status: Status::Clear,
-        tim: false,
-        disabled: false,
-        bdi: false,
-        iae: false,
-        biae: false,
-        deg: false,
-    }
 }
 
 // What is told of level n.

@@ -1,3 +1,4 @@
+pub mod Takes
 pub mod Scans
 pub mod Unique
 pub mod Refuted

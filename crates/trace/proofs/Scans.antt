@@ -10,7 +10,7 @@ use borrow.Author.Tests.{eq-eqb, ne-eqb}
 use Rattle.record.specs.Record.{recordOf, recordAt, recordsFrom, recordsOf, refusalIn, sizeOf, bodyOf, framesIn, Within}
 use Rattle.trace.specs.Scan.{refusedOf, appliedOf, takenOf, runOver, runOf}
 use Rattle.record.specs.declared.Record.{Record}
-use Rattle.record.specs.declared.Record.the-variants.{Frame, Mark, Provisioning, Refused}
+use Rattle.record.specs.declared.Record.the-variants.{Frame, Mark, Provisioning, Level, LevelFrame, Refused}
 use Rattle.trace.specs.declared.State.{State}
 use Rattle.trace.specs.declared.Taken.{Taken}
 use Rattle.trace.specs.declared.Stop.the-variants as stop
@@ -28,6 +28,8 @@ sized-by : (st : State) (ys body : List ℕ) (r : Record) → Whole ys r → app
 sized-by st ys body Frame h e = record { good = refl; some = omega arith; most = omega arith; long = h; one = omega arith }
 sized-by st ys body Mark h e = record { good = refl; some = omega arith; most = omega arith; long = h; one = omega arith }
 sized-by st ys body Provisioning h e = record { good = refl; some = omega arith; most = omega arith; long = h; one = omega arith }
+sized-by st ys body Level h e = record { good = refl; some = omega arith; most = omega arith; long = h; one = omega arith }
+sized-by st ys body LevelFrame h e = record { good = refl; some = omega arith; most = omega arith; long = h; one = omega arith }
 sized-by st ys body (Refused n) h e = absurd (omega (arith, h .0, e))
 
 pub sized : (st : State) (ys : List ℕ) → takenOf st ys .refusal ≡ 0 → Sized ys (recordOf ys)
@@ -49,6 +51,8 @@ by-good : (st : State) (zs ys : List ℕ) (r : Record) → Whole zs r → applie
 by-good st zs ys Frame h = ap (appliedOf st Frame) (body-append zs ys Frame refl h)
 by-good st zs ys Mark h = refl
 by-good st zs ys Provisioning h = ap (appliedOf st Provisioning) (body-append zs ys Provisioning refl h)
+by-good st zs ys Level h = ap (appliedOf st Level) (body-append zs ys Level refl h)
+by-good st zs ys LevelFrame h = ap (appliedOf st LevelFrame) (body-append zs ys LevelFrame refl h)
 by-good st zs ys (Refused n) h = refl
 
 pub taken-append : (st : State) (zs ys : List ℕ) → (takenOf st zs .refusal ≡ 14 → ⊥)

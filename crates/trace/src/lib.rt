@@ -1,19 +1,23 @@
 // The records of a trace taken in a state, and the scan of a buffer's records.
 use causes::Standing;
+use level::LevelStands;
 use record::Record;
-use supervisor::Supervisor;
+use tandem::Tandem;
 ghost use mathlib.Core.Path.{_≡_};
+ghost use Prim.Native.Nat.{_≤_};
 ghost use lib.ListN.{length, drop};
 ghost use Rattle.record.specs.Record.{Within, bodyOf};
-ghost use Rattle.trace.specs.Scan.{startOf, framedOf, markedOf, provisionedOf, appliedOf, runOf};
+ghost use Rattle.trace.specs.Scan.{startOf, refusedOf, answeredOf, steppedOf, framedOf, countsIn, markedOf, provisionedOf, givenOf, appliedOf, runOf};
 
-// What a scan carries: whether a provisioning was met, the supervisor since, the figures of the second that was closed last, and what
-// stands after the last frame.
+// What a scan carries: whether a provisioning was met, the kind of the frames accepted (0: none was), the supervisor since, the figures of the
+// second that was closed last, and what stands of line, section and path and of levels 1 to 6 after the last frame.
 pub struct State {
     pub begun: bool,
-    pub sup: Supervisor,
-    pub last: [u32; 20],
+    pub kind: u8,
+    pub sup: Tandem,
+    pub last: [u32; 44],
     pub standing: Standing,
+    pub levels: [LevelStands; 6],
 }
 
 // One record taken: its refusal, 0 where it was accepted; whether it closed a second; the state after it.
@@ -44,43 +48,87 @@ pub struct Run {
 pub fn start() -> State
     ensures { λ r. ⌜ r ≡ startOf ⌝ }
 {
-    let none = supervisor::blank();
-    let nothing = causes::nothing();
+    let blank = supervisor::blank();
+    let sup = tandem::fresh_tandem(blank);
+    let none = causes::nothing();
+    let nothing = tandem::nothing_stands();
     State {
         begun: false,
-        sup: none,
-        last: [0; 20],
-        standing: nothing,
+        kind: 0,
+        sup: sup,
+        last: [0; 44],
+        standing: none,
+        levels: [nothing; 6],
     }
 }
 
-// A frame taken: refusal 16 comes before the supervisor's.
-fn take_frame(st: State, body: &[u8]) -> Taken
-    requires { ⌜ length (now body) ≡ 67 ⌝ }
-    ensures { λ t. ⌜ t ≡ framedOf st (now (body .entry)) ⌝ }
+// A record refused: nothing is changed.
+fn refused(st: State, number: u8) -> Taken
+    ensures { λ t. ⌜ t ≡ refusedOf st number ⌝ }
 {
-    if st.begun {
-        let sup = st.sup;
-        let last = st.last;
-        let a = supervisor::step(sup, &body[0..64], body[64], body[65], body[66]);
-        let next = a.supervisor;
-        let standing = a.report.standing;
-        return Taken {
-            refusal: a.refusal,
-            closed: false,
-            state: State {
-                begun: true,
-                sup: next,
-                last: last,
-                standing: standing,
-            },
-        };
-    }
     Taken {
-        refusal: 16,
+        refusal: number,
         closed: false,
         state: st,
     }
+}
+
+// A record answered by a call: where the call refuses, so is the record.
+fn answered(st: State, refusal: u8, closed: bool, next: State) -> Taken
+    ensures { λ t. ⌜ t ≡ answeredOf st refusal closed next ⌝ }
+{
+    if refusal == 0 {
+        return Taken {
+            refusal: 0,
+            closed: closed,
+            state: next,
+        };
+    }
+    refused(st, refusal)
+}
+
+// A frame handed to the supervisor, with the counts of levels 1 to 6.
+fn stepped(st: State, kind: u8, body: &[u8], counts: [u8; 6]) -> Taken
+    requires { ⌜ 67 ≤ length (now body) ⌝ }
+    ensures { λ t. ⌜ t ≡ steppedOf st kind (now (body .entry)) counts ⌝ }
+{
+    let sup = st.sup;
+    let last = st.last;
+    let a = tandem::step(sup, &body[0..64], body[64], body[65], body[66], counts);
+    let after = a.tandem;
+    let standing = a.report.standing;
+    let levels = a.stands;
+    let next = State {
+        begun: true,
+        kind: kind,
+        sup: after,
+        last: last,
+        standing: standing,
+        levels: levels,
+    };
+    answered(st, a.refusal, false, next)
+}
+
+// A frame of kind 1 or 5 taken: refusals 16 and 19 come before the supervisor's.
+fn take_frame(st: State, kind: u8, body: &[u8], counts: [u8; 6]) -> Taken
+    requires { ⌜ 67 ≤ length (now body) ⌝ }
+    ensures { λ t. ⌜ t ≡ framedOf st kind (now (body .entry)) counts ⌝ }
+{
+    if st.begun {
+        if (st.kind == 0) | (st.kind == kind) {
+            return stepped(st, kind, body, counts);
+        }
+        return refused(st, 19);
+    }
+    refused(st, 16)
+}
+
+// The six counts at the end of a frame of kind 5.
+fn counts_in(body: &[u8]) -> [u8; 6]
+    requires { ⌜ length (now body) ≡ 73 ⌝ }
+    ensures { λ r. ⌜ r ≡ countsIn (now (body .entry)) ⌝ }
+{
+    [body[67], body[68], body[69], body[70], body[71], body[72]]
 }
 
 fn take_mark(st: State) -> Taken
@@ -88,26 +136,16 @@ fn take_mark(st: State) -> Taken
 {
     if st.begun {
         let sup = st.sup;
-        let standing = st.standing;
-        let a = supervisor::mark(sup);
-        let next = a.supervisor;
+        let a = tandem::mark(sup);
+        let after = a.tandem;
         let figures = a.figures;
-        return Taken {
-            refusal: a.refusal,
-            closed: true,
-            state: State {
-                begun: true,
-                sup: next,
-                last: figures,
-                standing: standing,
-            },
-        };
+        let mut next = st;
+        next.begun = true;
+        next.sup = after;
+        next.last = figures;
+        return answered(st, a.refusal, true, next);
     }
-    Taken {
-        refusal: 16,
-        closed: false,
-        state: st,
-    }
+    refused(st, 16)
 }
 
 fn take_provisioning(st: State, body: &[u8]) -> Taken
@@ -115,28 +153,35 @@ fn take_provisioning(st: State, body: &[u8]) -> Taken
     ensures { λ t. ⌜ t ≡ provisionedOf st (now (body .entry)) ⌝ }
 {
     if st.begun {
-        return Taken {
-            refusal: 16,
-            closed: false,
-            state: st,
-        };
+        return refused(st, 16);
     }
-    let last = st.last;
-    let standing = st.standing;
     let section = record::section_in(body);
     let path = record::path_in(body);
     let a = supervisor::provision(body[0], section, path, &body[15..47], &body[47..79]);
-    let next = a.supervisor;
-    Taken {
-        refusal: a.refusal,
-        closed: false,
-        state: State {
-            begun: true,
-            sup: next,
-            last: last,
-            standing: standing,
-        },
+    let base = a.supervisor;
+    let after = tandem::fresh_tandem(base);
+    let mut next = st;
+    next.begun = true;
+    next.sup = after;
+    answered(st, a.refusal, false, next)
+}
+
+// A level's provisioning taken: before the first frame or mark.
+fn take_level(st: State, body: &[u8]) -> Taken
+    requires { ⌜ length (now body) ≡ 40 ⌝ }
+    ensures { λ t. ⌜ t ≡ givenOf st (now (body .entry)) ⌝ }
+{
+    if st.begun {
+        let sup = st.sup;
+        let asked = record::level_in(body);
+        let a = tandem::give_record(sup, body[0], asked, &body[8..40]);
+        let after = a.tandem;
+        let mut next = st;
+        next.begun = true;
+        next.sup = after;
+        return answered(st, a.refusal, false, next);
     }
+    refused(st, 16)
 }
 
 // The record at a position of s taken.
@@ -148,7 +193,7 @@ fn applied(st: State, r: Record, s: &[u8], at: usize) -> Taken
         Record::Frame => {
             let start = at + 4;
             let end = start + 67;
-            take_frame(st, &s[start..end])
+            take_frame(st, 1, &s[start..end], [0; 6])
         }
         Record::Mark => take_mark(st),
         Record::Provisioning => {
@@ -156,11 +201,19 @@ fn applied(st: State, r: Record, s: &[u8], at: usize) -> Taken
             let end = start + 79;
             take_provisioning(st, &s[start..end])
         }
-        Record::Refused(no) => Taken {
-            refusal: no,
-            closed: false,
-            state: st,
-        },
+        Record::Level => {
+            let start = at + 4;
+            let end = start + 40;
+            take_level(st, &s[start..end])
+        }
+        Record::LevelFrame => {
+            let start = at + 4;
+            let end = start + 73;
+            let body = &s[start..end];
+            let counts = counts_in(body);
+            take_frame(st, 5, body, counts)
+        }
+        Record::Refused(no) => refused(st, no),
     }
 }
 
@@ -176,7 +229,12 @@ pub fn scan(tell: bool, st: State, s: &[u8], from: usize) -> Run
             break Stop::More;
         }
         let rec = record::record_at(s, at);
-        let (Record::Frame | Record::Mark | Record::Provisioning) = rec else {
+        let (Record::Frame
+        | Record::Mark
+        | Record::Provisioning
+        | Record::Level
+        | Record::LevelFrame) = rec
+        else {
             let number = record::refusal_in(rec);
             break Stop::Refused { number, offset: at };
         };

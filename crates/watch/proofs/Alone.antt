@@ -11,16 +11,17 @@ use borrow.Author.Tests.{le-leb, leb-true, eq-eqb}
 use Rattle.answer.specs.Each.{eachFrom}
 use Rattle.answer.proofs.Checks.{passed}
 use Rattle.answer.proofs.Cond.{by-cond, not-so}
-use Rattle.answer.proofs.Each.{each-at}
+use Rattle.answer.proofs.Each.{each-length, each-at}
 use Rattle.overhead.specs.Overhead.{levelField}
 use Rattle.settings.specs.Settings.{optionsOf}
 use Rattle.settings.specs.declared.Request.{Request}
 use Rattle.causes.specs.Causes.{pathSsf, reportOf}
 use Rattle.second.specs.Second.{closedOf, figuresOf}
-use Rattle.supervisor.specs.Supervisor.{stepRefusal, stepOf, markOf, standsAfter, frameOf}
+use Rattle.level.specs.declared.LevelStands.{LevelStands}
+use Rattle.supervisor.specs.Supervisor.{stepRefusal, stepOf, markOf, standsAfter, frameOf, nextSecond}
 use Rattle.history.specs.History.{Frame, standsAt, framed}
-use Rattle.tandem.specs.Levels.{givenLevel, blankLevel, steppedLevel, markedLevel, fourOf, levelFigures, countAt, frameRule, markRule, framedLevels, levelAt, placedAt, lowTo}
-use Rattle.tandem.specs.Tandem.{givenBy, giveRefusal, giveOf, frameChecks, frameRefusal, framedOf, markedOf, ssfNow, levelShown, levelReport}
+use Rattle.tandem.specs.Levels.{givenLevel, blankLevel, steppedLevel, markedLevel, fourOf, levelFigures, countAt, frameRule, markRule, framedLevels, markedLevels, levelAt, placedAt, lowTo}
+use Rattle.tandem.specs.Tandem.{givenBy, giveRefusal, giveOf, frameChecks, frameRefusal, framedOf, markedOf, ssfNow, nothing, levelShown, shownRule, shownLevels, levelReport}
 use Rattle.tandem.specs.declared.Level.{Level}
 use Rattle.tandem.specs.declared.Tandem.{Tandem}
 use Rattle.tandem.specs.declared.Given.{Given}
@@ -64,26 +65,53 @@ low-counts true true c e = e
 low-counts true false c e = absurd (not-so (sym e))
 low-counts false b c e = absurd (not-so (sym e))
 
-plain-accepts : (t : Tandem) (f : Frame) (counts : List ℕ) → refusalAt t f counts ≡ 0 → stepRefusal (t .base) (f .overhead) (f .flags) (f .sm) (f .pm) ≡ 0
+pub counts-low : (t : Tandem) (f : Frame) (counts : List ℕ) → refusalAt t f counts ≡ 0 → lowTo 6 counts ≡ true
 unfolding frameRefusal
-plain-accepts t f counts e =
+counts-low t f counts e =
     let p = passed 4 (frameChecks t (f .overhead) (f .flags) (f .sm) (f .pm) counts) refl e in
-    sym (refusal-same t f counts (low-counts (leb (f .sm) 8) (leb (f .pm) 8) (lowTo 6 counts) (p .1 .1 .0))) ∙ e
+    low-counts (leb (f .sm) 8) (leb (f .pm) 8) (lowTo 6 counts) (p .1 .1 .0)
+
+pub plain-accepts : (t : Tandem) (f : Frame) (counts : List ℕ) → refusalAt t f counts ≡ 0 → stepRefusal (t .base) (f .overhead) (f .flags) (f .sm) (f .pm) ≡ 0
+plain-accepts t f counts e = sym (refusal-same t f counts (counts-low t f counts e)) ∙ e
 
 -- the supervisor after an accepted frame
-abbrev afterFrame : Tandem → Frame → List ℕ → Tandem
+abbrev pub afterFrame : Tandem → Frame → List ℕ → Tandem
 afterFrame t f counts = record {
   base = framed (t .base) f;
   flags = f .flags;
   levels = framedLevels (t .levels) (pathSsf (standsAt (t .base) f)) (multiAt (t .base) f) (f .overhead) counts;
 }
 
-frame-accepted : (t : Tandem) (f : Frame) (counts : List ℕ) → refusalAt t f counts ≡ 0 → framedAt t f counts .tandem ≡ afterFrame t f counts
+pub frame-accepted : (t : Tandem) (f : Frame) (counts : List ℕ) → refusalAt t f counts ≡ 0 → framedAt t f counts .tandem ≡ afterFrame t f counts
 unfolding framedOf stepOf reportOf
 frame-accepted t f counts e = rw (eq-eqb _ _ e, eq-eqb _ _ (plain-accepts t f counts e))
 
+-- what it tells of line, section and path, and of the levels
+pub standing-accepted : (t : Tandem) (f : Frame) (counts : List ℕ) → refusalAt t f counts ≡ 0 → framedAt t f counts .report .standing ≡ standsAt (t .base) f
+unfolding framedOf stepOf reportOf
+standing-accepted t f counts e = rw (eq-eqb _ _ e, eq-eqb _ _ (plain-accepts t f counts e))
+
+stands-accepted : (t : Tandem) (f : Frame) (counts : List ℕ) → refusalAt t f counts ≡ 0
+    → framedAt t f counts .stands ≡ shownLevels (afterFrame t f counts .levels) (pathSsf (standsAt (t .base) f))
+unfolding framedOf stepOf reportOf
+stands-accepted t f counts e = rw (eq-eqb _ _ e, eq-eqb _ _ (plain-accepts t f counts e))
+
+-- the supervisor after an accepted mark
+module _ (t : Tandem) (taken : markedOf t .refusal ≡ 0) where
+  seconds-low : ltb (t .base .seconds) 4294967295 ≡ true
+  unfolding markedOf markOf
+  seconds-low = by (ltb (t .base .seconds) 4294967295) refl
+    where
+      by : (b : Bool) → ltb (t .base .seconds) 4294967295 ≡ b → ltb (t .base .seconds) 4294967295 ≡ true
+      by true e = e
+      by false e = let four : _≡_ {A = ℕ} 4 0 = rw e at taken in absurd (omega arith)
+
+  pub mark-accepted : markedOf t .tandem ≡ record { base = nextSecond (t .base); flags = t .flags; levels = markedLevels (t .levels) }
+  unfolding markedOf markOf
+  mark-accepted = rw seconds-low
+
 -- levels provisioned: in its own place, and in another
-placed-same : (ls : List Level) (n : ℕ) (l : Level) → length ls ≡ 6 → 1 ≤ n → n ≤ 6 → levelAt (placedAt ls n l) n ≡ l
+pub placed-same : (ls : List Level) (n : ℕ) (l : Level) → length ls ≡ 6 → 1 ≤ n → n ≤ 6 → levelAt (placedAt ls n l) n ≡ l
 placed-same ls n l six low high = rw (le-leb 1 n low, le-leb n 6 high) (getD-set-same ls (n - 1) l blankLevel (omega arith))
 
 placed-other : (ls : List Level) (m n : ℕ) (l : Level) → (m ≡ n → ⊥) → 1 ≤ n → n ≤ 6 → levelAt (placedAt ls m l) n ≡ levelAt ls n
@@ -129,22 +157,25 @@ module _ (t : Tandem) (n : ℕ) (six : length (t .levels) ≡ 6) (low : 1 ≤ n)
       ap (λ (u : Tandem). levelShown (levelAt (u .levels) n) (ssfNow (u .base) (u .flags))) a
       ∙ ap (λ (l : Level). levelShown l ssf) (ap (λ (u : Tandem). levelAt (u .levels) n) (sym a) ∙ own-frame f counts e g)
 
+  own-told : (f : Frame) (counts : List ℕ) → refusalAt t f counts ≡ 0
+      → getD (framedAt t f counts .stands) (n - 1) nothing ≡ levelReport (framedAt t f counts .tandem) n .stands
+  unfolding levelReport ssfNow frameOf standsAfter
+  own-told f counts e =
+      let ssf : Bool = pathSsf (standsAt (t .base) f) in
+      let after : List Level = afterFrame t f counts .levels in
+      let h : n - 1 < length after = rw (each-length (frameRule ssf (multiAt (t .base) f) (f .overhead) counts) 1 (t .levels), six) (omega arith) in
+      ap (λ (x : List LevelStands). getD x (n - 1) nothing) (stands-accepted t f counts e)
+      ∙ each-at (shownRule ssf) 1 after (n - 1) blankLevel nothing h
+      ∙ ap (λ (l : Level). levelShown l ssf) (sym (at-number after n low high))
+      ∙ ap (λ (u : Tandem). levelShown (levelAt (u .levels) n) (ssfNow (u .base) (u .flags))) (sym (frame-accepted t f counts e))
+
   -- level n after a mark, and its figures; a mark that is accepted is so without levels
   pub at-mark : markedOf t .refusal ≡ 0 → levelAt (markedOf t .tandem .levels) n ≡ markedLevel (levelAt (t .levels) n)
-  unfolding markedOf markOf
-  at-mark z = by (ltb (t .base .seconds) 4294967295) refl
-    where
-      by : (b : Bool) → ltb (t .base .seconds) 4294967295 ≡ b → levelAt (markedOf t .tandem .levels) n ≡ markedLevel (levelAt (t .levels) n)
-      by true e = rw e (at-each markRule (t .levels) n six low high)
-      by false e = let four : _≡_ {A = ℕ} 4 0 = rw e at z in absurd (omega arith)
+  at-mark z = ap (λ (u : Tandem). levelAt (u .levels) n) (mark-accepted t z) ∙ at-each markRule (t .levels) n six low high
 
   pub own-figures : markedOf t .refusal ≡ 0 → groupAt (markedOf t .figures) n ≡ fourOf (levelAt (t .levels) n)
   unfolding markedOf markOf
-  own-figures z = by (ltb (t .base .seconds) 4294967295) refl
-    where
-      by : (b : Bool) → ltb (t .base .seconds) 4294967295 ≡ b → groupAt (markedOf t .figures) n ≡ fourOf (levelAt (t .levels) n)
-      by true e = rw e (group-at (figuresOf (t .base .seconds + 1) (closedOf (t .base .second))) (t .levels) n refl six low high)
-      by false e = let four : _≡_ {A = ℕ} 4 0 = rw e at z in absurd (omega arith)
+  own-figures z = rw (seconds-low t z) (group-at (figuresOf (t .base .seconds + 1) (closedOf (t .base .second))) (t .levels) n refl six low high)
 
   own-given : (r : Request) (names : List ℕ) → giveRefusal t n r names ≡ 0 → levelAt (giveOf t n r names .tandem .levels) n ≡ givenLevel (optionsOf r names)
   unfolding givenBy
@@ -154,6 +185,7 @@ pub one-by-one : EachOneByOne
 one-by-one t n six low high = record {
   frame = own-frame t n six low high;
   stands = own-stands t n six low high;
+  told = own-told t n six low high;
   mark = at-mark t n six low high;
   figures = own-figures t n six low high;
   given = own-given t n six low high;

@@ -27,18 +27,18 @@ use Rattle.tandem.specs.declared.Tandem.{Tandem}
 use Rattle.tandem.specs.declared.Given.{Given}
 use Rattle.tandem.specs.declared.TandemStepped.{TandemStepped}
 use Rattle.tandem.specs.declared.TandemMarked.{TandemMarked}
-use Rattle.watch.specs.Watch.{LevelCall, gives, records, frames, marks, framedAt, handedBack, handed, neverGiven, groupAt, Nothing, EachUnmonitored, NoneYet}
+use Rattle.watch.specs.Watch.{LevelCall, gives, records, frames, marks, framedAt, tandemBy, tandemAfter, neverGiven, groupAt, Nothing, EachUnmonitored, NoneYet}
 use Rattle.watch.proofs.Alone.{at-each, at-number, group-at, given-other, own-figures}
 
 -- the levels are six, and each that is not provisioned is blank
-abbrev Kept : Level → Type 0
+abbrev pub Kept : Level → Type 0
 Kept l = l .given ≡ false → l ≡ blankLevel
 
-abbrev AllKept : List Level → Type 0
+abbrev pub AllKept : List Level → Type 0
 AllKept [] = Unit {0}
 AllKept (l ∷ ls) = Kept l × AllKept ls
 
-abbrev Six : List Level → Type 0
+abbrev pub Six : List Level → Type 0
 Six ls = (length ls ≡ 6) × AllKept ls
 
 kept-each : (rule : ℕ → Level → Level) (k : ℕ) (ls : List Level) → ((m : ℕ) (l : Level) → Kept l → Kept (rule m l)) → AllKept ls → AllKept (eachFrom rule k ls)
@@ -86,23 +86,23 @@ six-given refusal t n r names all =
     (λ _. six-placed (t .levels) n (givenLevel (optionsOf r names)) (λ z. absurd (not-so z)) all)
     (λ _. all)
 
-six-call : (t : Tandem) (c : LevelCall) → Six (t .levels) → Six (handedBack t c .levels)
-unfolding handedBack
+pub six-call : (t : Tandem) (c : LevelCall) → Six (t .levels) → Six (tandemBy t c .levels)
+unfolding tandemBy
 six-call t (gives n r names) all = six-given _ t n r names all
 six-call t (records n r names) all = six-given _ t n r names all
 six-call t (frames f counts) all = six-framed t f counts all
 six-call t marks all = six-marked t all
 
-six-calls : (t : Tandem) (cs : List LevelCall) → Six (t .levels) → Six (handed t cs .levels)
-unfolding handed
+six-calls : (t : Tandem) (cs : List LevelCall) → Six (t .levels) → Six (tandemAfter t cs .levels)
+unfolding tandemAfter
 six-calls t [] all = all
-six-calls t (c ∷ cs) all = six-calls (handedBack t c) cs (six-call t c all)
+six-calls t (c ∷ cs) all = six-calls (tandemBy t c) cs (six-call t c all)
 
 kept-fresh : (n : ℕ) → AllKept (replicate n blankLevel)
 kept-fresh zero = tt
 kept-fresh (suc n) = ((λ _. refl), kept-fresh n)
 
-six-fresh : Six (replicate 6 blankLevel)
+pub six-fresh : Six (replicate 6 blankLevel)
 six-fresh = (refl, kept-fresh 6)
 
 -- level n is provisioned by no other call than one that asks for it
@@ -128,8 +128,8 @@ module _ (n : ℕ) (low : 1 ≤ n) (high : n ≤ 6) where
       ap (λ (l : Level). l .given) (given-other refusal t m n r names (λ (e : m ≡ n). not-so (sym (rw (eq-eqb m n e) at ne))) low high) ∙ g
 
   only : (t : Tandem) (cs : List LevelCall) → Six (t .levels) → levelAt (t .levels) n .given ≡ false → neverGiven n cs ≡ true
-      → levelAt (handed t cs .levels) n .given ≡ false
-  unfolding handed handedBack neverGiven
+      → levelAt (tandemAfter t cs .levels) n .given ≡ false
+  unfolding tandemAfter tandemBy neverGiven
   only t [] all g never = g
   only t (gives m r names ∷ cs) all g never =
       let h = given-keeps _ t m r names (and-left (not (eqb m n)) (neverGiven n cs) never) g in
@@ -141,7 +141,7 @@ module _ (n : ℕ) (low : 1 ≤ n) (high : n ≤ 6) where
   only t (marks ∷ cs) all g never = only _ cs (six-marked t all) (marked-keeps t all g) never
 
   -- nothing is told of a level that is not provisioned
-  blank-fresh : levelAt (replicate 6 blankLevel) n ≡ blankLevel
+  pub blank-fresh : levelAt (replicate 6 blankLevel) n ≡ blankLevel
   blank-fresh = at-number (replicate 6 blankLevel) n low high ∙ getD-replicate 6 (n - 1) blankLevel blankLevel (omega arith)
 
   no-figures : groupAt (replicate 44 0) n ≡ replicate 4 0
@@ -170,7 +170,7 @@ module _ (n : ℕ) (low : 1 ≤ n) (high : n ≤ 6) where
 pub unmonitored : EachUnmonitored
 unmonitored s cs n low high = record {
   only = λ never. only n low high (freshTandem s) cs six-fresh (ap (λ (l : Level). l .given) (blank-fresh n low high)) never;
-  nothing = λ g. tells-nothing n low high (handed (freshTandem s) cs) (six-calls (freshTandem s) cs six-fresh) g;
+  nothing = λ g. tells-nothing n low high (tandemAfter (freshTandem s) cs) (six-calls (freshTandem s) cs six-fresh) g;
 }
 
 -- a fresh supervisor has no SSF: no frames are added up, and no trace is accepted

@@ -1,3 +1,4 @@
 pub mod Alone
 pub mod Blank
+pub mod Calls
 pub mod Silent

@@ -5,9 +5,10 @@ use mathlib.Core.Bool.{Bool, true, false, cond, _&&_}
 use mathlib.Core.List.{List, [], _∷_}
 use lib.Dec.{leb, eqb, ltb}
 use lib.ListN.{length}
-use Rattle.answer.proofs.Cond.{by-cond}
+use Rattle.answer.proofs.Cond.{by-cond, cond-under}
 use Rattle.supervisor.specs.Supervisor.{stepRefusal, stepOf, markOf}
 use Rattle.supervisor.specs.declared.Supervisor.{Supervisor}
+use Rattle.supervisor.specs.declared.Marked.{Marked}
 use Rattle.settings.specs.declared.Request.{Request}
 use Rattle.history.specs.History.{Frame, does, frame, mark}
 use Rattle.history.specs.History as base
@@ -15,7 +16,7 @@ use Rattle.tandem.specs.Levels.{lowTo}
 use Rattle.tandem.specs.Tandem.{givenBy, frameRefusal, framedOf, markedOf}
 use Rattle.tandem.specs.declared.Tandem.{Tandem}
 use Rattle.tandem.specs.declared.Given.{Given}
-use Rattle.watch.specs.Watch.{LevelCall, gives, records, frames, marks, refusalAt, framedAt, handedBack, handed, without, SameFrame, SameMark, LevelsSilent}
+use Rattle.watch.specs.Watch.{LevelCall, gives, records, frames, marks, refusalAt, framedAt, tandemBy, tandemAfter, without, SameFrame, SameMark, LevelsSilent}
 
 and-true : (a b : Bool) → (a && b && true) ≡ (a && b)
 and-true true true = refl
@@ -69,17 +70,17 @@ unfolding framedOf
 silent-high t f counts high = rw (refusal-high t f counts high)
 
 -- the provisioning of a level leaves line, section and path
-given-base : (refusal : ℕ) (t : Tandem) (n : ℕ) (r : Request) (names : List ℕ) → givenBy refusal t n r names .tandem .base ≡ t .base
+pub given-base : (refusal : ℕ) (t : Tandem) (n : ℕ) (r : Request) (names : List ℕ) → givenBy refusal t n r names .tandem .base ≡ t .base
 unfolding givenBy
 given-base refusal t n r names = by-cond (λ (x : Given). x .tandem .base ≡ t .base) (eqb refusal 0) (λ _. refl) (λ _. refl)
 
-silent-calls : (t : Tandem) (cs : List LevelCall) → handed t cs .base ≡ base.handed (t .base) (without cs)
-unfolding handed handedBack without base.handed base.handedBack
+silent-calls : (t : Tandem) (cs : List LevelCall) → tandemAfter t cs .base ≡ base.handed (t .base) (without cs)
+unfolding tandemAfter tandemBy without base.handed base.handedBack
 silent-calls t [] = refl
 silent-calls t (gives n r names ∷ cs) =
-    silent-calls (handedBack t (gives n r names)) cs ∙ ap (λ (s : Supervisor). base.handed s (without cs)) (given-base _ t n r names)
+    silent-calls (tandemBy t (gives n r names)) cs ∙ ap (λ (s : Supervisor). base.handed s (without cs)) (given-base _ t n r names)
 silent-calls t (records n r names ∷ cs) =
-    silent-calls (handedBack t (records n r names)) cs ∙ ap (λ (s : Supervisor). base.handed s (without cs)) (given-base _ t n r names)
+    silent-calls (tandemBy t (records n r names)) cs ∙ ap (λ (s : Supervisor). base.handed s (without cs)) (given-base _ t n r names)
 silent-calls t (frames f counts ∷ cs) = silent-calls (framedAt t f counts .tandem) cs ∙ by (lowTo 6 counts) refl
   where
     by : (b : Bool) → lowTo 6 counts ≡ b
@@ -90,3 +91,8 @@ silent-calls t (marks ∷ cs) = silent-calls (markedOf t .tandem) cs ∙ ap (λ 
 
 pub levels-silent : (t : Tandem) → LevelsSilent t
 levels-silent t = record { frame = silent-frame t; mark = silent-mark t; high = silent-high t; calls = silent-calls t }
+
+-- a mark is refused by the seconds closed
+pub mark-refusal : (t : Tandem) → markedOf t .refusal ≡ base.refusalOf (t .base) mark
+unfolding markOf base.refusalOf
+mark-refusal t = silent-mark t .refusal ∙ cond-under (λ (m : Marked). m .refusal) (ltb (t .base .seconds) 4294967295) _ _

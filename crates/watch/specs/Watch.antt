@@ -1,11 +1,11 @@
--- Lists of calls of a supervisor with levels: what the levels leave as it was, what one that is not provisioned is, and what one level makes of its own
--- bytes. Assumes nothing.
-use Prim.Native.Nat.{ℕ, _+_, _*_, _≤_}
+-- Lists of calls of a supervisor with levels: which are accepted, what the levels leave as it was, what one that is not provisioned is, and what one level
+-- makes of its own bytes. Assumes nothing.
+use Prim.Native.Nat.{ℕ, _+_, _-_, _*_, _≤_}
 use mathlib.Core.Path.{_≡_}
 use mathlib.Core.Bool.{Bool, true, false, cond, not, _&&_}
 use mathlib.Core.List.{List, [], _∷_}
 use lib.Dec.{eqb}
-use lib.ListN.{length, take, drop, replicate}
+use lib.ListN.{length, getD, take, drop, replicate}
 use Rattle.overhead.specs.Overhead.{levelField}
 use Rattle.alignment.specs.declared.Multi.{Multi}
 use Rattle.settings.specs.Settings.{optionsOf}
@@ -21,10 +21,10 @@ use Rattle.supervisor.specs.Supervisor.{freshOf, stepOf, markOf}
 use Rattle.supervisor.specs.declared.Supervisor.{Supervisor}
 use Rattle.supervisor.specs.declared.Stepped.{Stepped}
 use Rattle.supervisor.specs.declared.Marked.{Marked}
-use Rattle.history.specs.History.{Frame, frame, mark, standsAt, framed, Call, does}
+use Rattle.history.specs.History.{Frame, Event, frame, mark, standsAt, framed, Call, does}
 use Rattle.history.specs.History as base
 use Rattle.tandem.specs.Levels.{givenLevel, blankLevel, markedLevel, fourOf, countAt, levelAt, lowTo}
-use Rattle.tandem.specs.Tandem.{freshTandem, giveRefusal, giveOf, recordOf, frameRefusal, framedOf, markedOf, ssfNow, nothing, levelShown, levelReport, levelTraced}
+use Rattle.tandem.specs.Tandem.{freshTandem, giveRefusal, giveOf, recordRefusal, recordedOf, frameRefusal, framedOf, markedOf, ssfNow, nothing, levelShown, levelReport, levelTraced}
 use Rattle.tandem.specs.declared.Level.{Level}
 use Rattle.tandem.specs.declared.Tandem.{Tandem}
 use Rattle.tandem.specs.declared.TandemStepped.{TandemStepped}
@@ -44,15 +44,34 @@ abbrev pub framedAt : Tandem → Frame → List ℕ → TandemStepped
 framedAt t f counts = framedOf t (f .overhead) (f .flags) (f .sm) (f .pm) counts
 
 -- by the contracts of `give`, `give_record`, `step` and `mark`: the supervisor handed back, by a call and by a list of them
-unfoldable pub handedBack : Tandem → LevelCall → Tandem
-handedBack t (gives n r names) = giveOf t n r names .tandem
-handedBack t (records n r names) = recordOf t n r names .tandem
-handedBack t (frames f counts) = framedAt t f counts .tandem
-handedBack t marks = markedOf t .tandem
+unfoldable pub tandemBy : Tandem → LevelCall → Tandem
+tandemBy t (gives n r names) = giveOf t n r names .tandem
+tandemBy t (records n r names) = recordedOf t n r names .tandem
+tandemBy t (frames f counts) = framedAt t f counts .tandem
+tandemBy t marks = markedOf t .tandem
 
-unfoldable pub handed : Tandem → List LevelCall → Tandem
-handed t [] = t
-handed t (c ∷ cs) = handed (handedBack t c) cs
+unfoldable pub tandemAfter : Tandem → List LevelCall → Tandem
+tandemAfter t [] = t
+tandemAfter t (c ∷ cs) = tandemAfter (tandemBy t c) cs
+
+-- the refusal of a call, 0 where it is accepted; and each call of a list is accepted where it stands
+abbrev pub refusalOf : Tandem → LevelCall → ℕ
+refusalOf t (gives n r names) = giveRefusal t n r names
+refusalOf t (records n r names) = recordRefusal t n r names
+refusalOf t (frames f counts) = refusalAt t f counts
+refusalOf t marks = markedOf t .refusal
+
+abbrev pub AllTaken : Tandem → List LevelCall → Type 0
+AllTaken t [] = Unit {0}
+AllTaken t (c ∷ cs) = (refusalOf t c ≡ 0) × AllTaken (tandemBy t c) cs
+
+-- the frames and marks among calls, as line, section and path have them
+unfoldable pub eventsAmong : List LevelCall → List Event
+eventsAmong [] = []
+eventsAmong (gives n r names ∷ cs) = eventsAmong cs
+eventsAmong (records n r names ∷ cs) = eventsAmong cs
+eventsAmong (frames f counts ∷ cs) = frame f ∷ eventsAmong cs
+eventsAmong (marks ∷ cs) = mark ∷ eventsAmong cs
 
 -- The same calls of a supervisor without levels: no provisioning of a level, and no frame in which one of the six counts is above 8, for that one is refused.
 unfoldable pub without : List LevelCall → List Call
@@ -81,7 +100,7 @@ pub record LevelsSilent (t : Tandem) : Type 0 where
   pub mark : SameMark (markedOf t) (markOf (t .base))
   -- a count above 8 refuses the frame, its level provisioned or not, and nothing changes
   pub high : (f : Frame) (counts : List ℕ) → lowTo 6 counts ≡ false → framedAt t f counts .tandem ≡ t
-  pub calls : (cs : List LevelCall) → handed t cs .base ≡ base.handed (t .base) (without cs)
+  pub calls : (cs : List LevelCall) → tandemAfter t cs .base ≡ base.handed (t .base) (without cs)
 
 -- no call of the list asks to provision level n
 unfoldable pub neverGiven : ℕ → List LevelCall → Bool
@@ -106,8 +125,8 @@ pub record Nothing (t : Tandem) (n : ℕ) : Type 0 where
 
 -- after every list of calls from a supervisor with no level provisioned
 pub record Unmonitored (s : Supervisor) (cs : List LevelCall) (n : ℕ) : Type 0 where
-  pub only : neverGiven n cs ≡ true → levelAt (handed (freshTandem s) cs .levels) n .given ≡ false
-  pub nothing : levelAt (handed (freshTandem s) cs .levels) n .given ≡ false → Nothing (handed (freshTandem s) cs) n
+  pub only : neverGiven n cs ≡ true → levelAt (tandemAfter (freshTandem s) cs .levels) n .given ≡ false
+  pub nothing : levelAt (tandemAfter (freshTandem s) cs .levels) n .given ≡ false → Nothing (tandemAfter (freshTandem s) cs) n
 
 abbrev pub EachUnmonitored : Type 0
 EachUnmonitored = (s : Supervisor) (cs : List LevelCall) (n : ℕ) → 1 ≤ n → n ≤ 6 → Unmonitored s cs n
@@ -146,6 +165,9 @@ pub record OneByOne (t : Tandem) (n : ℕ) : Type 0 where
       → levelAt (framedAt t f counts .tandem .levels) n ≡ ownLevel t f counts n
   pub stands : (f : Frame) (counts : List ℕ) → refusalAt t f counts ≡ 0 → levelAt (t .levels) n .given ≡ true
       → levelReport (framedAt t f counts .tandem) n .stands ≡ ownFrame t f n (levelAt (t .levels) n) .stands
+  -- the frame's answer has it, provisioned or not
+  pub told : (f : Frame) (counts : List ℕ) → refusalAt t f counts ≡ 0
+      → getD (framedAt t f counts .stands) (n - 1) nothing ≡ levelReport (framedAt t f counts .tandem) n .stands
   pub mark : markedOf t .refusal ≡ 0 → levelAt (markedOf t .tandem .levels) n ≡ markedLevel (levelAt (t .levels) n)
   pub figures : markedOf t .refusal ≡ 0 → groupAt (markedOf t .figures) n ≡ fourOf (levelAt (t .levels) n)
   -- the provisioning of it, and of another

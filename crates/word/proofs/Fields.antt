@@ -1,7 +1,7 @@
--- Each field of a report is read back from its place. Assumes nothing.
+-- Each field of a report, and of what is told of a level, is read back from its place. Assumes nothing.
 use mathlib.Core.Path.{_≡_, refl, sym, ap, _∙_}
 use mathlib.Core.Bool.{Bool, true, false}
-use mathlib.Core.List.{List, [], _∷_, _++_, map}
+use mathlib.Core.List.{List, [], _∷_, _++_}
 use Prim.Native.Nat.{ℕ, zero, suc, _+_, _/_, _%_, _^_, _<_}
 use native.Mathlib.Nat.{mod-eq-of-lt, div-eq-of-lt, div-div-eq-div-mul, add-mul-div-left, add-mul-mod-self-left, div-one, zero-add}
 use native.Mathlib.Omega.{arith}
@@ -20,7 +20,12 @@ use Rattle.causes.specs.declared.PathCauses.{PathCauses}
 use Rattle.causes.specs.declared.Report.{Report}
 use Rattle.causes.proofs.OneCause.{one-cause}
 use Rattle.answer.specs.Bits.{flag}
-use Rattle.word.specs.Table.{Bits, reportTable, bitsOf, RowsRead, sideBySide, EveryReportBack}
+use Rattle.level.specs.Level.{dAIS, dLTC, dOCI, dLCK}
+use Rattle.level.specs.declared.LevelStands.{LevelStands}
+use Rattle.level.specs.declared.LevelActions.{LevelActions}
+use Rattle.level.specs.declared.LevelCauses.{LevelCauses}
+use Rattle.word.specs.Level.{Told, told, levelFields, levelActed, levelCaused, toldFields, levelWord}
+use Rattle.word.specs.Table.{Bits, reportTable, levelTable, bitsOf, RowsRead, begins, sideBySide, EveryReportBack, EveryLevelBack}
 use Rattle.word.specs.Report.{Field, number, packed, lineFields, sectionFields, pathFields, sectionActed, pathActed, lineCaused, sectionCaused, pathCaused, reportFields, reportWord}
 
 -- each number fits its bits
@@ -35,17 +40,18 @@ behind f fs h =
     ∙ ap (λ (n : ℕ). n + packed fs) (div-eq-of-lt h)
     ∙ zero-add (packed fs)
 
--- a row as a field of the report's word
-abbrev fieldBy : Report → Bits → Field
-fieldBy r b = number (b .width) (b .value r)
+-- rows as the fields of the thing that they tell
+abbrev fieldsBy : {A : Type 0} → A → List (Bits A) → List Field
+fieldsBy a [] = []
+fieldsBy a (b ∷ bs) = number (b .width) (b .value a) ∷ fieldsBy a bs
 
 -- rows that lie side by side read their values in a word whose bits from there on are their fields
-rows-read : (word at : ℕ) (r : Report) (bs : List Bits) → map (λ (b : Bits). b .from) bs ≡ sideBySide at bs → Fits (map (fieldBy r) bs)
-    → word / 2 ^ at ≡ packed (map (fieldBy r) bs) → RowsRead word r bs
-rows-read word at r [] e z h = tt
-rows-read word at r (b ∷ bs) e z h =
-    let f : Field = fieldBy r b in
-    let fs : List Field = map (fieldBy r) bs in
+rows-read : {A : Type 0} (word at : ℕ) (a : A) (bs : List (Bits A)) → begins bs ≡ sideBySide at bs → Fits (fieldsBy a bs)
+    → word / 2 ^ at ≡ packed (fieldsBy a bs) → RowsRead word a bs
+rows-read word at a [] e z h = tt
+rows-read word at a (b ∷ bs) e z h =
+    let f : Field = number (b .width) (b .value a) in
+    let fs : List Field = fieldsBy a bs in
     let here : b .from ≡ at = ap (λ (l : List ℕ). getD l 0 0) e in
     let first : word / 2 ^ b .from ≡ packed (f ∷ fs) = rw here h in
     let rest : word / 2 ^ (at + b .width) ≡ packed fs
@@ -54,7 +60,7 @@ rows-read word at r (b ∷ bs) e z h =
     ∙ ap (λ (n : ℕ). n / 2 ^ b .width) h
     ∙ behind f fs (z .0) in (
       ap (λ (n : ℕ). n % 2 ^ b .width) first ∙ add-mul-mod-self-left (f .value) (2 ^ f .width) (packed fs) ∙ mod-eq-of-lt (z .0),
-      rows-read word (at + b .width) r bs (ap (drop 1) e) (z .1) rest,
+      rows-read word (at + b .width) a bs (ap (drop 1) e) (z .1) rest,
     )
 
 one-fits : (b : Bool) → flag b < 2 ^ 1
@@ -117,13 +123,35 @@ report-back d sm pm hs hp =
     let fits : Fits (reportFields r) = report-fits r (omega arith) (omega arith) (omega arith) in
     record { reads = rows-read (reportWord r) 0 r reportTable refl fits (div-one (reportWord r)); beside = refl }
 
--- what the i-th row reads, and that it does
-abbrev pub RowRead : ℕ → ℕ → Report → List Bits → Type 0
-RowRead i word r [] = Unit {0}
-RowRead zero word r (b ∷ bs) = bitsOf word (b .from) (b .width) ≡ b .value r
-RowRead (suc i) word r (b ∷ bs) = RowRead i word r bs
+level-fits : (d : LevelStands) → Fits (levelFields d)
+level-fits d = (one-fits (d .ssf), (one-fits (dLTC d), (one-fits (dAIS d), (one-fits (dOCI d), (one-fits (dLCK d), (one-fits (d .tim), (one-fits (d .bdi), (one-fits (d .iae), (one-fits (d .biae), (one-fits (d .deg), tt))))))))))
 
-pub row-read : (i word : ℕ) (r : Report) (bs : List Bits) → RowsRead word r bs → RowRead i word r bs
-row-read i word r [] a = tt
-row-read zero word r (b ∷ bs) a = a .0
-row-read (suc i) word r (b ∷ bs) a = row-read i word r bs (a .1)
+level-acts-fit : (a : LevelActions) → Fits (levelActed a)
+level-acts-fit a = (one-fits (a .tsf), (one-fits (a .tsd), tt))
+
+level-causes-fit : (c : LevelCauses) → Fits (levelCaused c)
+level-causes-fit c = (one-fits (c .ssf), (one-fits (c .ltc), (one-fits (c .oci), (one-fits (c .lck), (one-fits (c .tim), (one-fits (c .deg), (one-fits (c .bdi), tt)))))))
+
+told-fits : (t : Told) → Fits (toldFields t)
+told-fits t =
+    let zero-fits : 0 < 256 = omega arith in
+    let rest = fits-append (levelActed (t .actions)) (levelCaused (t .causes)) (level-acts-fit (t .actions)) (level-causes-fit (t .causes)) in
+    (zero-fits, (one-fits (t .given), fits-append (levelFields (t .stands)) (levelActed (t .actions) ++ levelCaused (t .causes)) (level-fits (t .stands)) rest))
+
+-- What is told of a level has no field but the refusal's that is more than one bit: each row is read back.
+pub level-back : EveryLevelBack
+unfolding levelWord
+level-back given d a c =
+    let t : Told = told given d a c in
+    record { reads = rows-read (levelWord given d a c) 0 t levelTable refl (told-fits t) (div-one (levelWord given d a c)); beside = refl }
+
+-- what the i-th row reads, and that it does
+abbrev pub RowRead : {A : Type 0} → ℕ → ℕ → A → List (Bits A) → Type 0
+RowRead i word a [] = Unit {0}
+RowRead zero word a (b ∷ bs) = bitsOf word (b .from) (b .width) ≡ b .value a
+RowRead (suc i) word a (b ∷ bs) = RowRead i word a bs
+
+pub row-read : {A : Type 0} (i word : ℕ) (a : A) (bs : List (Bits A)) → RowsRead word a bs → RowRead i word a bs
+row-read i word a [] r = tt
+row-read zero word a (b ∷ bs) r = r .0
+row-read (suc i) word a (b ∷ bs) r = row-read i word a bs (r .1)

@@ -1,4 +1,4 @@
-// The report of a frame as one number: its fields side by side above the low byte.
+// The report of a frame, and what is told of a tandem level, each as one number: its fields side by side above the low byte.
 use causes::Line;
 use causes::LineCauses;
 use causes::PathActions;
@@ -8,10 +8,14 @@ use causes::Report;
 use causes::SectionActions;
 use causes::SectionCauses;
 use causes::SectionStands;
+use level::LevelActions;
+use level::LevelCauses;
+use level::LevelStands;
 ghost use mathlib.Core.Path.{_≡_};
 ghost use Prim.Native.Nat.{_*_, _<_, _≤_};
 ghost use Rattle.answer.specs.Bits.{flag};
 ghost use Rattle.word.specs.Report.{packed, lineFields, sectionFields, pathFields, sectionActed, pathActed, lineCaused, sectionCaused, pathCaused, reportWord};
+ghost use Rattle.word.specs.Level.{levelFields, levelActed, levelCaused, levelWord};
 
 fn bit_of(x: bool) -> u64
     ensures { λ r. ⌜ (r ≡ flag x) × (r ≤ 1) ⌝ }
@@ -132,4 +136,53 @@ pub fn report_word(r: Report) -> u64
         + 17592186044416 * lcaused
         + 70368744177664 * scaused
         + 1125899906842624 * pcaused
+}
+
+// SSF, dLTC, dAIS, dOCI, dLCK, dTIM, dBDI, dIAE, dBIAE, dDEG of a level.
+fn level_bits(d: LevelStands) -> u64
+    ensures { λ r. ⌜ (r ≡ packed (levelFields d)) × (r < 1024) ⌝ }
+{
+    let status = d.status;
+    let raises = level::raises_of(status);
+    bit_of(d.ssf)
+        + 2 * bit_of(raises.ltc)
+        + 4 * bit_of(raises.ais)
+        + 8 * bit_of(raises.oci)
+        + 16 * bit_of(raises.lck)
+        + 32 * bit_of(d.tim)
+        + 64 * bit_of(d.bdi)
+        + 128 * bit_of(d.iae)
+        + 256 * bit_of(d.biae)
+        + 512 * bit_of(d.deg)
+}
+
+// aTSF, aTSD of a level.
+fn level_acts(a: LevelActions) -> u64
+    ensures { λ r. ⌜ (r ≡ packed (levelActed a)) × (r < 4) ⌝ }
+{
+    bit_of(a.tsf) + 2 * bit_of(a.tsd)
+}
+
+// cSSF, cLTC, cOCI, cLCK, cTIM, cDEG, cBDI of a level.
+fn level_caused(c: LevelCauses) -> u64
+    ensures { λ r. ⌜ (r ≡ packed (levelCaused c)) × (r < 128) ⌝ }
+{
+    bit_of(c.ssf)
+        + 2 * bit_of(c.ltc)
+        + 4 * bit_of(c.oci)
+        + 8 * bit_of(c.lck)
+        + 16 * bit_of(c.tim)
+        + 32 * bit_of(c.deg)
+        + 64 * bit_of(c.bdi)
+}
+
+// What is told of a level as a number.
+pub fn level_word(given: bool, d: LevelStands, a: LevelActions, c: LevelCauses) -> u64
+    ensures { λ n. ⌜ n ≡ levelWord given d a c ⌝ }
+{
+    let first = bit_of(given);
+    let stands = level_bits(d);
+    let acts = level_acts(a);
+    let caused = level_caused(c);
+    256 * first + 512 * stands + 524288 * acts + 2097152 * caused
 }

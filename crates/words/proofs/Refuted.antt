@@ -52,7 +52,7 @@ words-in-part κs a s b at t end e =
 
 -- record_of: the first word comes first
 pub words-reversed : (κs : Lfts 0) (x : List ℕ) (s : AtExit (endedOf 0 record-of-kinds.ps record-of-kinds.r) κs)
-    → getD x 0 0 ≡ 0 → record-of-reads.Post κs (1 ∷ replicate 19 0, tt) x s → ⊥
+    → getD x 0 0 ≡ 0 → record-of-reads.Post κs (1 ∷ replicate 19 0, (replicate 24 0, tt)) x s → ⊥
 unfolding flat
 words-reversed κs x s w e =
     let z : _≡_ {A = ℕ} 0 1 = sym w ∙ ap (λ (l : List ℕ). getD l 0 0) e in

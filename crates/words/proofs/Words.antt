@@ -5,12 +5,12 @@ use Prim.Native.Nat.{ℕ, zero, suc, _+_, _*_, _/_, _%_, _≤_, _<_}
 use native.Mathlib.Nat.{not-suc-le-zero, le-of-suc-le-suc, div-div-eq-div-mul, mod-eq-of-lt}
 use native.Mathlib.Numerals.{add-one}
 use native.Mathlib.Omega.{arith}
-use lib.ListN.{length, getD, take, drop, replicate, set}
+use lib.ListN.{length, getD, take, drop, replicate, set, length-append}
 use lib.Seq.{take-suc, getD-drop, length-take-le, take-append-add, drop-append-add}
 use borrow.Author.Tests.{le-leb, lt-leb}
 use Rattle.words.specs.Words.{le4, flat, wordAt, wordsOf, wordsIn, countedIn}
 use Rattle.answer.specs.Over.{over}
-use Rattle.codec.proofs.Overs.{laid-done, laid-kept}
+use Rattle.codec.proofs.Overs.{over-all, laid-done, laid-kept}
 use Rattle.filter.specs.Filter.{upOf}
 use Rattle.answer.proofs.Overs.{set-over, over-length, over-over}
 
@@ -59,6 +59,18 @@ pub over-word : (d b' b w : List ℕ) (at i : ℕ) → b' ≡ over b (at + i * 4
 over-word d b' b w at i e h k r =
     let n : at + i * 4 ≡ at + length (flat (take i w)) = omega (arith, length-flat (take i w), length-take-le i w (omega arith)) in
     e ∙ rw h (over-over d at (at + i * 4) (flat (take i w)) (le4 (getD w i 0)) r n ∙ ap (over d at) (sym (flat-more w i k)))
+
+-- words, and others behind them, over all of the bytes
+pub over-two : (d o p v w : List ℕ) (n : ℕ) → n ≡ length v * 4 → length v * 4 + length w * 4 ≡ length d
+    → o ≡ over d 0 (flat v) → p ≡ over o n (flat w) → p ≡ flat (v ++ w)
+over-two d o p v w n h l e f =
+    let k : n ≡ 0 + length (flat v) = omega (arith, length-flat v) in
+    let m : length (flat v ++ flat w) ≡ length d = length-append (flat v) (flat w) ∙ omega (arith, length-flat v, length-flat w) in
+    f
+    ∙ ap (λ (x : List ℕ). over x n (flat w)) e
+    ∙ over-over d 0 n (flat v) (flat w) (omega arith) k
+    ∙ over-all d (flat v ++ flat w) m
+    ∙ sym (flat-append v w)
 
 -- within the bytes
 pub words-room : (n at : ℕ) (l : List ℕ) → at + n * 4 ≤ length l → wordsIn n at l ≡ wordsOf n (drop at l)

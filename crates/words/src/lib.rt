@@ -1,6 +1,7 @@
 // Numbers in lent bytes, as little-endian words of four bytes. Each function takes any place: what does not lie within the lent bytes is
 // read as zeros, and is not written.
 ghost use mathlib.Core.Path.{_≡_};
+ghost use mathlib.Core.List.{_++_};
 ghost use Prim.Native.Nat.{_+_, _*_, _≤_, _<_};
 ghost use lib.ListN.{length, drop};
 ghost use Rattle.answer.specs.Over.{over};
@@ -83,12 +84,13 @@ pub fn lay_words(b: &mut [u8], at: u32, w: [u32; 12])
     }
 }
 
-// The 80 bytes of twenty words.
-pub fn record_of(w: [u32; 20]) -> [u8; 80]
-    ensures { λ r. ⌜ r ≡ flat w ⌝ }
+// The 176 bytes of twenty words and of twenty-four behind them.
+pub fn record_of(v: [u32; 20], w: [u32; 24]) -> [u8; 176]
+    ensures { λ r. ⌜ r ≡ flat (v ++ w) ⌝ }
 {
-    let mut t = [0u8; 80];
-    put_words(&mut t, 0, &w);
+    let mut t = [0u8; 176];
+    put_words(&mut t, 0, &v);
+    put_words(&mut t, 80, &w);
     t
 }
 

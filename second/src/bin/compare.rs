@@ -8,11 +8,14 @@
 //! explanation, and CALLS: programs made of calls.c and a card's library, likewise. second/compare builds them and sets all three.
 //! LEDGER is taken where LEDGERS is not set.
 
-use second::card::Card;
+use second::card::{Card, LevelFields, RECORD};
 use second::cover::Cover;
 use second::explain::explain;
 use second::generate::{self, Generated, Item};
-use second::provisioning::Provisioning;
+use second::level;
+use second::level_cover::LevelCover;
+use second::level_generate;
+use second::provisioning::{ceiling, LevelProvisioning, Provisioning};
 use second::random::Random;
 use second::reader;
 use second::report;
@@ -73,6 +76,13 @@ fn printed(path: &str, trace: &[u8]) -> String {
     text
 }
 
+/// What was exercised: of line, section and path, and of the levels.
+#[derive(Default)]
+struct Exercised {
+    base: Cover,
+    levels: LevelCover,
+}
+
 /// Orders for calls.c, and what the second program answers to them.
 #[derive(Default)]
 struct Session {
@@ -82,11 +92,13 @@ struct Session {
     calls: Vec<(usize, String)>,
     /// Where the second program's own answers are not as demand 3 has them.
     broken: Vec<String>,
+    /// What stood of the levels after the last frame.
+    stood: [level::Standing; 6],
 }
 
 impl Session {
-    fn answer(&mut self, what: String, word: u64, buffer: &[u8], cover: &mut Cover) {
-        cover.refusals[(word & 255) as usize] += 1;
+    fn answer(&mut self, what: String, word: u64, buffer: &[u8], cover: &mut Exercised) {
+        cover.base.refusals[(word & 255) as usize] += 1;
         self.calls.push((self.expected.len(), what));
         self.expected.extend(word.to_le_bytes());
         self.expected.push(0);
@@ -103,7 +115,7 @@ struct Fields<'a> {
     names: [&'a [u8]; 2],
 }
 
-fn fresh(session: &mut Session, card: &mut Card, sup: u8, f: &Fields, cover: &mut Cover) {
+fn fresh(session: &mut Session, card: &mut Card, sup: u8, f: &Fields, cover: &mut Exercised) {
     let o = &mut session.orders;
     o.extend([b'F', sup, f.k]);
     for layer in 0..2 {
@@ -128,29 +140,53 @@ fn fresh(session: &mut Session, card: &mut Card, sup: u8, f: &Fields, cover: &mu
     session.answer("otn_fresh".into(), word, &[], cover);
 }
 
-fn step(session: &mut Session, card: &mut Card, sup: u8, overhead: &[u8], flags: u8, counts: [u8; 2], cover: &mut Cover) {
+fn level(session: &mut Session, card: &mut Card, sup: u8, f: &LevelFields, cover: &mut Exercised) {
     let o = &mut session.orders;
-    o.extend([b'S', sup]);
-    o.extend((overhead.len() as u16).to_le_bytes());
-    o.extend(overhead);
-    o.extend([flags, counts[0], counts[1]]);
+    o.extend([b'L', sup, f.level]);
+    o.extend(f.thr.to_le_bytes());
+    o.extend([f.degm, f.mode, f.dis]);
+    o.extend((f.names.len() as u16).to_le_bytes());
+    o.extend(f.names);
+    let word = card.level(sup == 0, f);
+    session.answer(format!("otn_level, level {}", f.level), word, &[], cover);
+}
+
+/// One frame's overhead and what comes with it. Without the six counts the call is otn_step.
+struct Given<'a> {
+    overhead: &'a [u8],
+    flags: u8,
+    counts: [u8; 2],
+    six: Option<[u8; 6]>,
+}
+
+fn step(session: &mut Session, card: &mut Card, sup: u8, f: &Given, cover: &mut Exercised) {
+    let o = &mut session.orders;
+    o.extend([if f.six.is_some() { b'N' } else { b'S' }, sup]);
+    o.extend((f.overhead.len() as u16).to_le_bytes());
+    o.extend(f.overhead);
+    o.extend([f.flags, f.counts[0], f.counts[1]]);
+    o.extend(f.six.iter().flatten());
     let before = card.supervisor.as_ref().map(|s| s.standing());
-    let word = card.step(sup == 0, overhead, flags, counts[0], counts[1]);
+    let word = match f.six {
+        Some(six) => card.step_levels(sup == 0, f.overhead, f.flags, f.counts[0], f.counts[1], six),
+        None => card.step(sup == 0, f.overhead, f.flags, f.counts[0], f.counts[1]),
+    };
     if let (Some(before), Some(s), 0) = (before, &card.supervisor, word & 255) {
-        cover.frame(&before, &s.standing());
+        cover.base.frame(&before, &s.standing());
+        cover.levels.follow(s, &mut session.stood);
         let acts = [s.provisioning.acts(0), s.provisioning.acts(1)];
         session.broken.extend(demand_3(word, acts));
     }
     session.answer(String::new(), word, &[], cover);
 }
 
-fn mark(session: &mut Session, card: &mut Card, sup: u8, room: usize, fill: u8, cover: &mut Cover) {
+fn mark(session: &mut Session, card: &mut Card, sup: u8, room: usize, fill: u8, cover: &mut Exercised) {
     session.orders.extend([b'M', sup]);
     session.orders.extend((room as u16).to_le_bytes());
     session.orders.push(fill);
     let mut buffer = vec![fill; room];
     let word = card.mark(sup == 0, &mut buffer);
-    cover.marks += u64::from(word == 0);
+    cover.base.marks += u64::from(word == 0);
     if word == 0 && room >= 80 {
         let figure = |i: usize| u32::from_le_bytes(buffer[4 * i..4 * i + 4].try_into().unwrap());
         session.broken.extend(demand_3_second(&std::array::from_fn(figure)));
@@ -158,13 +194,27 @@ fn mark(session: &mut Session, card: &mut Card, sup: u8, room: usize, fill: u8, 
     session.answer(format!("otn_mark, {room} bytes"), word, &buffer, cover);
 }
 
-fn trace(session: &mut Session, card: &Card, sup: u8, layer: u8, room: usize, fill: u8, cover: &mut Cover) {
-    session.orders.extend([b'T', sup, layer]);
+/// Whose accepted trace is read.
+enum Of {
+    Layer(u8),
+    Level(u8),
+}
+
+fn trace(session: &mut Session, card: &Card, sup: u8, of: Of, room: usize, fill: u8, cover: &mut Exercised) {
+    let mut buffer = vec![fill; room];
+    let (order, number, word, what) = match of {
+        Of::Layer(n) => (b'T', n, card.trace(sup == 0, n, &mut buffer), "otn_trace, layer"),
+        Of::Level(n) => (b'U', n, card.level_trace(sup == 0, n, &mut buffer), "otn_level_trace, level"),
+    };
+    session.orders.extend([order, sup, number]);
     session.orders.extend((room as u16).to_le_bytes());
     session.orders.push(fill);
-    let mut buffer = vec![fill; room];
-    let word = card.trace(sup == 0, layer, &mut buffer);
-    session.answer(format!("otn_trace, layer {layer}, {room} bytes"), word, &buffer, cover);
+    session.answer(format!("{what} {number}, {room} bytes"), word, &buffer, cover);
+}
+
+fn level_report(session: &mut Session, card: &Card, sup: u8, level: u8, cover: &mut Exercised) {
+    session.orders.extend([b'P', sup, level]);
+    session.answer(format!("otn_level_report, level {level}"), card.level_report(sup == 0, level), &[], cover);
 }
 
 /// What demand 3 says of one frame's report: what is not so.
@@ -190,26 +240,45 @@ fn demand_3_second(s: &[u32; 20]) -> Option<String> {
 }
 
 /// A call that is refused, of any number, or one that changes nothing.
-fn aside(rng: &mut Random, session: &mut Session, card: &mut Card, p: &Provisioning, cover: &mut Cover) {
+fn aside(rng: &mut Random, session: &mut Session, card: &mut Card, p: &Provisioning, cover: &mut Exercised) {
     let sup = if rng.once_in(3) { rng.within(1, 4) as u8 } else { 0 };
     let mut overhead = vec![0u8; rng.pick(&[0, 1, 63, 65, 128, 300])];
     rng.fill(&mut overhead);
     let good = [0u8; 64];
-    match rng.below(8) {
-        0 => step(session, card, sup, &overhead, rng.byte(), [rng.byte(), rng.byte()], cover),
-        1 => step(session, card, sup, &good, rng.within(4, 255) as u8, [rng.below(12) as u8, rng.byte()], cover),
-        2 => {
-            let mut counts = [rng.below(9) as u8, rng.below(9) as u8];
-            counts[rng.below(2) as usize] = rng.within(9, 255) as u8;
-            step(session, card, sup, &good, rng.below(4) as u8, counts, cover);
+    let six = rng.once_in(2).then(|| std::array::from_fn(|_| rng.below(9) as u8));
+    match rng.below(11) {
+        0 => {
+            let f = Given { overhead: &overhead, flags: rng.byte(), counts: [rng.byte(), rng.byte()], six };
+            step(session, card, sup, &f, cover);
         }
-        3 => step(session, card, rng.within(1, 4) as u8, &good, 0, [0; 2], cover),
-        4 => mark(session, card, rng.within(1, 4) as u8, rng.pick(&[0, 1, 79, 80, 81]), rng.byte(), cover),
+        1 => {
+            let f = Given { overhead: &good, flags: rng.within(4, 255) as u8, counts: [rng.below(12) as u8, rng.byte()], six };
+            step(session, card, sup, &f, cover);
+        }
+        2 => {
+            // One count of the two or of the eight is too high.
+            let mut counts: [u8; 8] = std::array::from_fn(|_| rng.below(9) as u8);
+            counts[rng.below(if six.is_some() { 8 } else { 2 }) as usize] = rng.within(9, 255) as u8;
+            let six = six.map(|_| std::array::from_fn(|i| counts[2 + i]));
+            let f = Given { overhead: &good, flags: rng.below(4) as u8, counts: [counts[0], counts[1]], six };
+            step(session, card, sup, &f, cover);
+        }
+        3 => {
+            let f = Given { overhead: &good, flags: 0, counts: [0; 2], six };
+            step(session, card, rng.within(1, 4) as u8, &f, cover);
+        }
+        4 => mark(session, card, rng.within(1, 4) as u8, rng.pick(&[0, 1, 79, 80, 81, 175, 176, 177]), rng.byte(), cover),
         5 | 6 => {
             let layer = if rng.once_in(4) { rng.byte() } else { rng.below(2) as u8 };
+            let of = if rng.once_in(2) { Of::Layer(layer) } else { Of::Level(any_level(rng)) };
             let room = if rng.once_in(3) { rng.pick(&[0, 1, 63, 65, 200]) } else { 64 };
-            trace(session, card, sup, layer, room, rng.byte(), cover);
+            trace(session, card, sup, of, room, rng.byte(), cover);
         }
+        7 => {
+            let level = any_level(rng);
+            level_report(session, card, sup, level, cover);
+        }
+        8 | 9 => late_level(rng, session, card, sup, p.k, cover),
         _ => {
             // A fresh that is refused: one field or more out of range.
             let empty: [u8; 33] = [7; 33];
@@ -237,13 +306,54 @@ fn aside(rng: &mut Random, session: &mut Session, card: &mut Card, p: &Provision
     }
 }
 
-fn session(rng: &mut Random, g: &Generated, cover: &mut Cover) -> Session {
+/// A level, mostly of the six.
+fn any_level(rng: &mut Random) -> u8 {
+    if rng.once_in(6) {
+        return rng.pick(&[0, 7, 255]);
+    }
+    rng.within(1, 6) as u8
+}
+
+/// A level's provisioning that is refused where a frame or a mark was accepted, or the level is none or given; otherwise it is not
+/// asked of the supervisor that is compared.
+fn late_level(rng: &mut Random, session: &mut Session, card: &mut Card, sup: u8, k: u8, cover: &mut Exercised) {
+    let ceiling = ceiling(k).expect("k is 1 to 3");
+    let names = [9u8; 33];
+    let mut f = LevelFields { level: any_level(rng), thr: 1, degm: 2, mode: 0, dis: 0, names: &names[..32] };
+    for wrong in 6..=10 {
+        if !rng.once_in(6) {
+            continue;
+        }
+        match wrong {
+            6 => f.thr = rng.pick(&[0, ceiling + 1, u32::MAX]),
+            7 => f.degm = rng.pick(&[0, 1, 11, 255]),
+            8 => f.mode = rng.pick(&[4, 255]),
+            9 => f.dis = rng.pick(&[3, 255]),
+            _ => f.names = &names[..rng.pick(&[0, 31, 33])],
+        }
+    }
+    let accepted = card.clone().level(true, &f) == 0;
+    level(session, card, if accepted { rng.within(1, 4) as u8 } else { sup }, &f, cover);
+}
+
+fn level_fields(level: u8, p: &LevelProvisioning) -> LevelFields<'_> {
+    LevelFields { level, thr: p.degthr, degm: p.degm, mode: p.mode, dis: p.dis, names: &p.names }
+}
+
+fn session(rng: &mut Random, g: &Generated, cover: &mut Exercised) -> Session {
     let mut session = Session::default();
     let mut card = Card::default();
     let p = &g.provisioning;
     let fields = Fields { k: p.k, thr: p.degthr, degm: p.degm, mode: p.mode, dis: p.dis, names: [&p.names[0], &p.names[1]] };
     fresh(&mut session, &mut card, 0, &fields, cover);
+    for (number, p) in &g.levels {
+        if rng.once_in(4) {
+            late_level(rng, &mut session, &mut card, 0, g.provisioning.k, cover);
+        }
+        level(&mut session, &mut card, 0, &level_fields(*number, p), cover);
+    }
     let often = rng.pick(&[5, 20, 100]);
+    let read: Vec<usize> = g.levels.iter().flat_map(|(n, _)| [level::field(*n), level::field(*n) + 2]).collect();
     for item in &g.items {
         if rng.once_in(often) {
             aside(rng, &mut session, &mut card, p, cover);
@@ -252,17 +362,29 @@ fn session(rng: &mut Random, g: &Generated, cover: &mut Cover) -> Session {
             Item::Frame(f) => {
                 // Bytes that are ignored hold anything.
                 let mut overhead = f.overhead();
-                for i in (10..32).chain(32..41).chain(44..64).chain([8, 42]) {
+                for i in (10..41).chain(44..64).chain([8, 42]).filter(|i| !read.contains(i)) {
                     overhead[i] = rng.byte();
                 }
-                step(&mut session, &mut card, 0, &overhead, f.flags, f.violations, cover);
+                // otn_step is the frame whose six counts are 0.
+                let six = if g.counted { f.counts() } else { [0; 6] };
+                let six = (six != [0; 6] || rng.once_in(2)).then_some(six);
+                let frame = Given { overhead: &overhead, flags: f.flags, counts: f.violations, six };
+                step(&mut session, &mut card, 0, &frame, cover);
                 if f.mfas % 64 == 63 && rng.once_in(4) {
-                    trace(&mut session, &card, 0, rng.below(2) as u8, 64, rng.byte(), cover);
+                    let of = if rng.once_in(2) { Of::Layer(rng.below(2) as u8) } else { Of::Level(any_level(rng)) };
+                    trace(&mut session, &card, 0, of, 64, rng.byte(), cover);
+                }
+                if !g.levels.is_empty() && rng.once_in(2) {
+                    let level = any_level(rng);
+                    level_report(&mut session, &card, 0, level, cover);
                 }
             }
             Item::Mark => {
-                let room = if rng.once_in(4) { rng.pick(&[0, 1, 5, 79, 81, 200]) } else { 80 };
+                let room = if rng.once_in(4) { rng.pick(&[0, 1, 5, 80, 175, 177, 200]) } else { RECORD };
                 mark(&mut session, &mut card, 0, room, rng.byte(), cover);
+                for (number, _) in &g.levels {
+                    level_report(&mut session, &card, 0, *number, cover);
+                }
             }
         }
     }
@@ -447,13 +569,13 @@ fn directed(dir: &str, programs: &Programs, write: &Option<String>) {
         // The calls meet a full second in trace 0.
         let g = Generated {
             provisioning: case.provisioning,
-            levels: Vec::new(),
-            counted: false,
+            levels: case.levels,
+            counted: true,
             items: case.items,
             bytes: Vec::new(),
             about: String::new(),
         };
-        let session = (g.items.len() < 100_000).then(|| session(&mut Random::new(count), &g, &mut Cover::default()));
+        let session = (g.items.len() < 100_000).then(|| session(&mut Random::new(count), &g, &mut Exercised::default()));
         let explanation = programs.explanation(&case.bytes);
         workers.give(Task { whose, trace: case.bytes, listing: case.listing, explanation, session });
     }
@@ -491,22 +613,27 @@ fn main() {
         directed(dir, &programs, &write);
     }
     println!("seed {seed}, {traces} traces");
-    let mut cover = Cover::default();
-    let mut explanations = 0u64;
+    let mut cover = Exercised::default();
+    let (mut listings, mut explanations) = (0u64, 0u64);
     let workers = Workers::start(&programs);
     for index in from..from + traces {
         if enough() {
             println!("{MANY} differences; no more is compared");
             break;
         }
-        let g = generate::trace(seed, index);
+        // Every third trace has levels.
+        let g = match index % 3 {
+            2 => level_generate::trace(seed, index / 3),
+            _ => generate::trace(seed, index - index / 3),
+        };
         let whose = format!("seed {seed} trace {index} ({})", g.about);
         // The full second's texts are a directed case.
         let listing = if index == 0 { String::new() } else { reader::list(&g.bytes) };
         let explanation = if index == 0 { String::new() } else { programs.explanation(&g.bytes) };
+        listings += u64::from(!listing.is_empty());
         explanations += u64::from(!explanation.is_empty());
         if let Some(number) = listing.lines().find_map(|l| l.strip_prefix("R ")?.split(' ').next()?.parse::<usize>().ok()) {
-            cover.refusals[number] += 1;
+            cover.base.refusals[number] += 1;
         }
         if let Some(dir) = &write {
             std::fs::write(format!("{dir}/{seed}-{index}.trace"), &g.bytes).unwrap();
@@ -521,18 +648,21 @@ fn main() {
     }
     workers.end();
     let failures = DIFFERENCES.load(Ordering::Relaxed);
-    let (table, wrong) = cover.table();
+    let (table, mut wrong) = cover.base.table();
     println!("{table}");
+    let (table, of_levels) = cover.levels.table();
+    println!("{table}");
+    wrong.extend(of_levels);
     for line in &wrong {
         println!("{line}");
     }
     println!(
         "compared: {} listings each of {}, {} explanations each of {}, {} calls each of {}; {:.1} s",
-        traces,
+        listings,
         programs.ledgers.len(),
         explanations,
         programs.explains.len(),
-        cover.refusals.iter().sum::<u64>(),
+        cover.base.refusals.iter().sum::<u64>(),
         programs.calls.len(),
         began.elapsed().as_secs_f64()
     );

@@ -4,9 +4,9 @@
 
 use second::explain::explain;
 use second::generate;
+use second::level_generate;
 use second::random::Random;
 use second::reader::{self, Trace};
-use second::WITH_LEVELS;
 use std::io::{Read, Write};
 use std::process::{Command, ExitStatus, Stdio};
 
@@ -22,14 +22,21 @@ fn input(rng: &mut Random, from: &[u8]) -> Vec<u8> {
             // Headers in order, bodies noise: many get past 14 and 15.
             let mut t = Trace::default();
             t.0.extend(&from[..83]);
+            for _ in 0..rng.below(4) {
+                let mut body = [0u8; 40];
+                rng.fill(&mut body[8..]);
+                (body[0], body[1], body[5], body[6]) = (rng.below(8) as u8, 1, 2, rng.below(4) as u8);
+                t.record(4, &body);
+            }
+            let (kind, long) = rng.pick(&[(1, 67), (5, 73)]);
             for _ in 0..rng.below(200) {
-                let mut body = vec![0u8; 67];
+                let mut body = vec![0u8; long];
                 rng.fill(&mut body[..64]);
                 body[64] = rng.below(4) as u8;
                 match rng.below(40) {
                     0 => t.record(2, &[]),
-                    1 => t.record(rng.below(5) as u16, &body[..rng.pick(&[0, 66, 67])]),
-                    _ => t.record(1, &body),
+                    1 => t.record(rng.below(7) as u16, &body[..rng.pick(&[0, 40, 66, 67, long])]),
+                    _ => t.record(kind, &body),
                 }
             }
             t.0
@@ -89,12 +96,15 @@ fn main() {
     }
     let ledgers = std::env::var("LEDGERS").unwrap_or_default();
     let explains = std::env::var("EXPLAINS").unwrap_or_default();
-    let mut refusals = vec![0u64; if WITH_LEVELS { 20 } else { 18 }];
+    let mut refusals = [0u64; 20];
     let mut rng = Random::new(seed);
     let mut from = Vec::new();
     for index in 0..inputs {
         if index % 50 == 0 {
-            from = generate::trace(seed, 1 + index / 50).bytes;
+            from = match index / 50 % 2 {
+                0 => generate::trace(seed, 1 + index / 50).bytes,
+                _ => level_generate::trace(seed, index / 50).bytes,
+            };
             if from.len() < 83 {
                 from = generate::trace(seed, 1_000_001).bytes;
                 from.resize(from.len().max(83), 0);

@@ -22,17 +22,14 @@ part-tally-at-end c = search needs
 tally-at-requires : tie.Need-tally-at-requires
 tally-at-requires c κs = search needs
 
-report-word-requires : tie.Need-report-word-requires
-report-word-requires c κs = search needs
-
 same-length : tie.Need-same-length
 same-length c = search needs
 
 returns : tie.Need-returns
 returns c =
-    let a = c .before .before .before .before .before .before .before .before .before .before .before .before in
-    let f = c .before .before .before .before .before .before .before .before .layers-in .ensures in
-    filed-is (now (a .args .sup)) (a .pre .1 .0) (now (a .args .overhead)) (a .args .flags) (a .args .sm) (a .args .pm) _ _ _ _ _ (f .0) (f .1) (c .before .before .before .before .before .report-of .ensures) (c .before .before .before .tally-at .ensures) (c .report-word .ensures)
+    let a = c .before .before .before .before .before .before .before .before .before .before .before .before .before in
+    let f = c .before .before .before .before .before .before .before .before .before .layers-in .ensures in
+    filed-is (now (a .args .sup)) (a .pre .1 .0) (now (a .args .overhead)) (a .args .flags) (a .args .sm) (a .args .pm) _ _ _ _ (f .0) (f .1) (c .before .before .before .before .report-of .ensures) (c .before .before .tally-at .ensures)
 
 pub step-in-spec : {M : Type 1} → statement M
 step-in-spec =
@@ -44,6 +41,5 @@ step-in-spec =
     part-tally-at-start
     part-tally-at-end
     tally-at-requires
-    report-word-requires
     same-length
     returns)

@@ -3,6 +3,9 @@ use borrow.Author.Needs.{needs}
 use Rattle.card.proofs.step_refusal.Statement.{statement}
 use Rattle.card.proofs.step_refusal.Tie as tie
 
+all-low-requires : tie.Need-all-low-requires
+all-low-requires c κs = search needs
+
 checked-requires : tie.Need-checked-requires
 checked-requires c κs = search needs
 
@@ -17,9 +20,15 @@ checked-requires-4 c κs = search needs
 
 returns : tie.Need-returns
 unfolding refusalBy
-returns c = simp (← c .before .before .before .checked .ensures, ← c .before .before .checked2 .ensures, ← c .before .checked3 .ensures, ← c .checked4 .ensures)
+returns c = simp (← c .before .before .before .before .all-low .ensures, ← c .before .before .before .checked .ensures, ← c .before .before .checked2 .ensures, ← c .before .checked3 .ensures, ← c .checked4 .ensures)
 
 pub step-refusal-spec : {M : Type 1} → statement M
 step-refusal-spec =
     tie.close
-    (tie.spec checked-requires checked-requires-2 checked-requires-3 checked-requires-4 returns)
+    (tie.spec
+    all-low-requires
+    checked-requires
+    checked-requires-2
+    checked-requires-3
+    checked-requires-4
+    returns)

@@ -21,13 +21,13 @@ returns : tie.Need-returns
 returns c =
     let a = c .before .before .before .before .before .args in
     let u = c .before .before .put-changes in
-    let z = nothing (a .second) (a .frame) (a .total) (a .before) (a .after) (now (a .out)) (a .at) 1024 (omega (arith, u .ensures .place, c .if1 .taken)) in
+    let z = nothing (a .second) (a .frame) (a .total) (a .before) (a .after) (now (a .out)) (a .at) 2560 (omega (arith, u .ensures .place, c .if1 .taken)) in
     (z .0, omega arith, z .1)
 
 returns-2 : tie.Need-returns-2
 returns-2 c =
     let a = c .before .before .before .before .before .before .args in
-    let z = fits-not (now (a .out)) (a .at) 1024 (changeLine (a .second) (a .frame) (a .total) (a .before) (a .after)) (omega (arith, c .if2 .taken)) in
+    let z = fits-not (now (a .out)) (a .at) 2560 (changeLine (a .second) (a .frame) (a .total) (a .before) (a .after)) (omega (arith, c .if2 .taken)) in
     (z .0, omega arith, z .1)
 
 sub-if3 : tie.Need-sub-if3
@@ -36,7 +36,7 @@ sub-if3 c = search needs
 returns-3 : tie.Need-returns-3
 returns-3 c =
     let a = c .before .before .before .before .before .before .before .args in
-    let z = fits-not (now (a .out)) (a .at) 1024 (changeLine (a .second) (a .frame) (a .total) (a .before) (a .after)) (omega (arith, c .if3 .taken, c .before .if2 .left)) in
+    let z = fits-not (now (a .out)) (a .at) 2560 (changeLine (a .second) (a .frame) (a .total) (a .before) (a .after)) (omega (arith, c .if3 .taken, c .before .if2 .left)) in
     (z .0, omega arith, z .1)
 
 sub-put-line : tie.Need-sub-put-line
@@ -61,8 +61,8 @@ returns-4 c =
     let w = c .before .before .put-line in
     let v = allChanges (a .before) (a .after) in
     let n : u .result - 0 ≡ length v = omega (arith, u .ensures .place) in
-    let e : take (u .result - 0) (u .last .1 .1 .0) ≡ v = ap (take (u .result - 0)) (u .ensures .put) ∙ over-start (replicate 558 0) v (u .result - 0) n in
-    let h : 1024 ≤ length (now (a .out)) - a .at = omega (arith, c .before .before .before .before .before .before .if3 .left, c .before .before .before .before .before .before .before .if2 .left) in
+    let e : take (u .result - 0) (u .last .1 .1 .0) ≡ v = ap (take (u .result - 0)) (u .ensures .put) ∙ over-start (replicate 2398 0) v (u .result - 0) n in
+    let h : 2560 ≤ length (now (a .out)) - a .at = omega (arith, c .before .before .before .before .before .before .if3 .left, c .before .before .before .before .before .before .before .if2 .left) in
     let z = something (a .second) (a .frame) (a .total) (a .before) (a .after) (a .at) (w .result) (now (a .out)) (w .last .1 .1 .1 .1 .0) (λ z. c .before .before .before .before .before .before .before .before .if1 .left (omega (arith, n, z))) h (rw e at (w .ensures)) in
     (z .0, omega (arith, w .ensures .place, w .ensures .bound, u .ensures .bound, n), z .1)
 

@@ -27,7 +27,7 @@ returns c =
     let p = c .before .before .before .before .before .before .put-text in
     let x = wrote-text (now (a .out)) (a .at) (bytes " -") (omega (arith, s .pre .1)) (p .ensures) in
     let y = wrote-text (p .last .1 .0) (p .result) (now (a .name)) (omega (arith, s .pre .0, s .pre .1, x .place, p .kept .1 .0)) (c .before .before .put-text2 .ensures) in
-    wrote-more 76 (omega (arith, s .pre .0)) (wrote-then x y)
+    wrote-more 78 (omega (arith, s .pre .0)) (wrote-then x y)
 
 pub put-gone-spec : {M : Type 1} → statement M
 put-gone-spec =

@@ -56,7 +56,7 @@ returns c =
     let z = wrote-text (q .last .1 .0) (q .result) (bytes "=\"") (omega (arith, s .pre .0, s .pre .1, x .place, y .place, p .kept .1 .0, q .kept .1 .0)) (r .ensures) in
     let t = c .before .before .before .before .before .before .before .put-readable in
     let u = wrote-text (t .last .1 .0) (t .result) (bytes "\"") (omega (arith, s .pre .0, s .pre .1, x .place, y .place, z .place, t .ensures .place, t .ensures .bound, p .kept .1 .0, q .kept .1 .0, r .kept .1 .0, t .kept .1 .0)) (c .before .before .put-text4 .ensures) in
-    wrote-more 76 (omega (arith, s .pre .0)) (wrote-then x (wrote-then y (wrote-then z (wrote-then (t .ensures) u))))
+    wrote-more 78 (omega (arith, s .pre .0)) (wrote-then x (wrote-then y (wrote-then z (wrote-then (t .ensures) u))))
 
 pub put-told-spec : {M : Type 1} → statement M
 put-told-spec =

@@ -14,7 +14,7 @@ returns : tie.Need-returns
 unfolding traceChange
 returns c =
     let a = c .before .before .before .before .before .before .before .before .before .before .args in
-    rw (c .before .before .if1 .taken, ← c .before .before .before .same-trace .ensures, c .if2 .taken) (wrote-none 76 (a .at) (now (a .out)) (omega (arith, c .before .before .before .before .before .before .before .before .before .before .pre .1)))
+    rw (c .before .before .if1 .taken, ← c .before .before .before .same-trace .ensures, c .if2 .taken) (wrote-none 78 (a .at) (now (a .out)) (omega (arith, c .before .before .before .before .before .before .before .before .before .before .pre .1)))
 
 put-told-requires : tie.Need-put-told-requires
 put-told-requires c κs = search needs
@@ -40,7 +40,7 @@ returns-4 : tie.Need-returns-4
 unfolding traceChange changeOf
 returns-4 c =
     let a = c .before .before .before .before .before .before .before .before .before .args in
-    rw (c .before .if1 .left, c .if3 .left) (wrote-none 76 (a .at) (now (a .out)) (omega (arith, c .before .before .before .before .before .before .before .before .before .pre .1)))
+    rw (c .before .if1 .left, c .if3 .left) (wrote-none 78 (a .at) (now (a .out)) (omega (arith, c .before .before .before .before .before .before .before .before .before .pre .1)))
 
 pub put-trace-spec : {M : Type 1} → statement M
 put-trace-spec =

@@ -9,9 +9,12 @@ seen-of-requires c κs = search needs
 seen-of-requires-2 : tie.Need-seen-of-requires-2
 seen-of-requires-2 c κs = search needs
 
+traces-of-requires : tie.Need-traces-of-requires
+traces-of-requires c κs = search needs
+
 returns : tie.Need-returns
 unfolding shownOf
-returns c = simp (← c .before .seen-of .ensures, ← c .seen-of2 .ensures)
+returns c = simp (← c .before .before .before .seen-of .ensures, ← c .before .before .seen-of2 .ensures, ← c .traces-of .ensures)
 
 pub shown-of-spec : {M : Type 1} → statement M
-shown-of-spec = tie.close (tie.spec seen-of-requires seen-of-requires-2 returns)
+shown-of-spec = tie.close (tie.spec seen-of-requires seen-of-requires-2 traces-of-requires returns)

@@ -9,7 +9,7 @@ shown-of-requires : tie.Need-shown-of-requires
 shown-of-requires c κs = search needs
 
 returns : tie.Need-returns
-returns c = simp (← c .before .report-of .ensures, ← c .shown-of .ensures)
+returns c = rw (← c .before .report-of .ensures) (c .shown-of .ensures)
 
 pub shown-in-spec : {M : Type 1} → statement M
 shown-in-spec = tie.close (tie.spec report-of-requires shown-of-requires returns)

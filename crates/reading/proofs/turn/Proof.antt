@@ -49,7 +49,7 @@ add-offset c =
     let l = c .before .before .before .before .before .before .before .before .loop in
     let r = c .before .before .before .before .before .before .before .scan in
     let h = run-sound (a .from) (now (a .s)) (now (a .out)) (l .out) (l .at) (l .put) (l .state) (l .frames) (l .inv) (r .result) (r .ensures) in
-    omega (arith, c .before .wide2 .ensures, h .within, h .few, h .held, h .seconds)
+    omega (arith, c .before .wide2 .ensures, h .within, h .most, h .few, h .held, h .seconds)
 
 last-lines-requires : tie.Need-last-lines-requires Inv-loop μ-loop
 last-lines-requires c κs = search needs
@@ -95,26 +95,26 @@ loop-again c =
     let e = c .before .before .before .before .before .before .before .wide .ensures in
     rw e (going-told (a .from) (now (a .s)) (now (a .out)) (l .out) (l .at) (l .put) (l .state) (l .frames) (l .inv) (r .result) (r .ensures) (x .result) (x .last .1 .1 .1 .0) (halt-told (h .result) (r .result .stop) (h .ensures) (c .before .before .before .before .before .if1 .left) (c .before .before .before .before .if2 .taken)) (c .before .before .before .before .before .before .before .before .before .before .before .before .before .before .pre .1 .0) (c .before .before .before .before .before .before .before .before .before .before .before .before .before .before .pre .1 .1) (rw e at (x .ensures .0)) (x .ensures .1) (rw e at (x .ensures .2)) (x .kept .1 .1 .1 .0))
 
-second-line-requires : tie.Need-second-line-requires Inv-loop μ-loop
-second-line-requires c κs = search needs
+closed-line-requires : tie.Need-closed-line-requires Inv-loop μ-loop
+closed-line-requires c κs = search needs
 
 loop-less-2 : tie.Need-loop-less-2 Inv-loop μ-loop
 loop-less-2 c =
-    let a = c .before .before .before .before .before .before .before .before .before .before .before .before .before .before .before .args in
-    let l = c .before .before .before .before .before .before .before .before .before .before .before .loop in
-    let r = c .before .before .before .before .before .before .before .before .before .before .scan in
-    let h = c .before .before .before .before .before .before .before .halt-of in
+    let a = c .before .before .before .before .before .before .before .before .before .before .before .before .before .before .args in
+    let l = c .before .before .before .before .before .before .before .before .before .before .loop in
+    let r = c .before .before .before .before .before .before .before .before .before .scan in
+    let h = c .before .before .before .before .before .before .halt-of in
     let t = run-stands (a .from) (now (a .s)) (now (a .out)) (l .out) (l .at) (l .put) (l .state) (l .frames) (l .inv) (r .result) (r .ensures) in
-    omega (arith, t .inside, t .further (halt-closed (h .result) (r .result .stop) (h .ensures) (c .before .before .before .before .before .before .if1 .left) (c .before .before .before .before .before .if2 .left)))
+    omega (arith, t .inside, t .further (halt-closed (h .result) (r .result .stop) (h .ensures) (c .before .before .before .before .before .if1 .left) (c .before .before .before .before .if2 .left)))
 
 loop-again-2 : tie.Need-loop-again-2 Inv-loop μ-loop
 loop-again-2 c =
-    let a = c .before .before .before .before .before .before .before .before .before .before .before .before .before .before .before .args in
-    let l = c .before .before .before .before .before .before .before .before .before .before .before .loop in
-    let r = c .before .before .before .before .before .before .before .before .before .before .scan in
-    let h = c .before .before .before .before .before .before .before .halt-of in
-    let x = c .before .before .second-line in
-    rw (c .before .before .before .before .before .before .before .before .wide .ensures) (going-closed (a .from) (now (a .s)) (now (a .out)) (l .out) (l .at) (l .put) (l .state) (l .frames) (l .inv) (r .result) (r .ensures) (x .result) (x .last .1 .0) (halt-closed (h .result) (r .result .stop) (h .ensures) (c .before .before .before .before .before .before .if1 .left) (c .before .before .before .before .before .if2 .left)) (c .before .before .before .before .before .before .before .before .before .before .before .before .before .before .before .pre .1 .0) (c .before .before .before .before .before .before .before .before .before .before .before .before .before .before .before .pre .1 .1) (x .ensures .0) (x .ensures .1) (x .kept .1 .0))
+    let a = c .before .before .before .before .before .before .before .before .before .before .before .before .before .before .args in
+    let l = c .before .before .before .before .before .before .before .before .before .before .loop in
+    let r = c .before .before .before .before .before .before .before .before .before .scan in
+    let h = c .before .before .before .before .before .before .halt-of in
+    let x = c .before .before .closed-line in
+    rw (c .before .before .before .before .before .before .before .wide .ensures) (going-closed (a .from) (now (a .s)) (now (a .out)) (l .out) (l .at) (l .put) (l .state) (l .frames) (l .inv) (r .result) (r .ensures) (x .result) (x .last .1 .0) (halt-closed (h .result) (r .result .stop) (h .ensures) (c .before .before .before .before .before .if1 .left) (c .before .before .before .before .if2 .left)) (c .before .before .before .before .before .before .before .before .before .before .before .before .before .before .pre .1 .0) (c .before .before .before .before .before .before .before .before .before .before .before .before .before .before .pre .1 .1) (x .ensures .0) (x .ensures .1) (x .ensures .2) (x .kept .1 .0))
 
 pub turn-spec : {M : Type 1} → statement M
 turn-spec =
@@ -136,6 +136,6 @@ turn-spec =
     told-line-requires
     loop-less
     loop-again
-    second-line-requires
+    closed-line-requires
     loop-less-2
     loop-again-2)

@@ -11,14 +11,14 @@ add-two-at c = search needs
 two-at-requires-2 : tie.Need-two-at-requires-2
 two-at-requires-2 c κs = search needs
 
-mul-t6 : tie.Need-mul-t6
-mul-t6 c = search needs
+mul-t7 : tie.Need-mul-t7
+mul-t7 c = search needs
 
-add-t7 : tie.Need-add-t7
-add-t7 c = search needs
+add-t8 : tie.Need-add-t8
+add-t8 c = search needs
 
-cast-t8 : tie.Need-cast-t8
-cast-t8 c = search needs
+cast-t9 : tie.Need-cast-t9
+cast-t9 c = search needs
 
 add-byte-at : tie.Need-add-byte-at
 add-byte-at c = search needs
@@ -28,9 +28,6 @@ byte-at-requires c κs = search needs
 
 byte-at-requires-2 : tie.Need-byte-at-requires-2
 byte-at-requires-2 c κs = search needs
-
-add-byte-at-2 : tie.Need-add-byte-at-2
-add-byte-at-2 c = search needs
 
 byte-at-requires-3 : tie.Need-byte-at-requires-3
 byte-at-requires-3 c κs = search needs
@@ -45,12 +42,11 @@ request-at-spec =
     two-at-requires
     add-two-at
     two-at-requires-2
-    mul-t6
-    add-t7
-    cast-t8
+    mul-t7
+    add-t8
+    cast-t9
     add-byte-at
     byte-at-requires
     byte-at-requires-2
-    add-byte-at-2
     byte-at-requires-3
     returns)

@@ -1,21 +1,28 @@
 use mathlib.Core.Path.{_≡_, refl}
-use Prim.Native.Nat.{_≤_, _-_}
+use mathlib.Core.Logic.{⊎-elim}
+use Prim.Native.Nat.{_-_}
 use native.Mathlib.Omega.{arith}
-use lib.ListN.{length, take, length-set}
-use Rattle.answer.proofs.Each.{turn, turned}
-use Rattle.tandem.specs.Levels.{markRule, markedLevels}
+use Rattle.answer.proofs.Each.{turned}
+use Rattle.tandem.specs.Levels.{markRule}
+use Rattle.tandem.proofs.Turns.{SoFar, changed, passed-over, mark-stays}
 use borrow.Author.Needs.{needs}
 use Rattle.tandem.proofs.levels_mark.Statement.{statement}
 use Rattle.tandem.proofs.levels_mark.Tie as tie
 
 abbrev Inv-loop : tie.InvT-loop
-Inv-loop ls levels₀ i₀ levels i = (i ≤ 6) × (length levels ≡ 6) × (take i levels ≡ take i (markedLevels ls))
+Inv-loop levels₀ i₀ levels i = SoFar markRule levels₀ levels₀ levels i
 
 abbrev μ-loop : tie.MeasureT-loop
-μ-loop ls levels₀ i₀ levels i = 6 - i
+μ-loop levels₀ i₀ levels i = 6 - i
 
 loop-holds : tie.Need-loop-holds Inv-loop μ-loop
-loop-holds c = (omega arith, omega arith, refl)
+loop-holds c = (omega arith, omega arith, refl, refl)
+
+mul-if1 : tie.Need-mul-if1 Inv-loop μ-loop
+mul-if1 c = search needs
+
+element-copy-out-if1 : tie.Need-element-copy-out-if1 Inv-loop μ-loop
+element-copy-out-if1 c = search needs
 
 mul-l : tie.Need-mul-l Inv-loop μ-loop
 mul-l c = search needs
@@ -40,17 +47,18 @@ loop-less c = search needs
 
 loop-again : tie.Need-loop-again Inv-loop μ-loop
 loop-again c =
-    let l = c .before .before .before .loop in
-    let a = c .before .before .before .before .args in
-    let t = turn markRule 1 (a .t1) (l .levels) (l .i) _ _ (l .inv .2) (omega arith) (omega arith) (c .one-mark .ensures) in
-    (omega arith, simp length-set (omega arith), t)
+    let l = c .before .before .loop in
+    let ls = c .before .before .before .args .ls in
+    ⊎-elim
+    (λ w. changed markRule ls (l .levels) _ (l .i) _ _ (l .inv) (omega arith) (omega arith) (w .2 .ensures) (w .3))
+    (λ w. passed-over markRule ls (l .levels) _ (l .i) _ (l .inv) (omega arith) (omega arith) (mark-stays _ (w .0 .left)) (w .1))
+    (c .if1 .came)
 
 returns : tie.Need-returns Inv-loop μ-loop
 returns c =
     let l = c .before .loop in
-    let a = c .before .before .args in
     let e : l .i ≡ 6 = omega arith in
-    turned markRule 1 (a .t1) (l .levels) 6 (rw e at (l .inv .2)) (omega arith) (omega arith)
+    turned markRule 1 (c .before .before .args .ls) (l .levels) 6 (rw e at (l .inv .2)) (omega arith) (omega arith)
 
 pub levels-mark-spec : {M : Type 1} → statement M
 levels-mark-spec =
@@ -59,6 +67,8 @@ levels-mark-spec =
     Inv-loop
     μ-loop
     loop-holds
+    mul-if1
+    element-copy-out-if1
     mul-l
     array-copy-out-l
     one-mark-requires

@@ -1,24 +1,30 @@
 use mathlib.Core.Path.{_≡_, refl}
-use Prim.Native.Nat.{_≤_, _-_}
+use mathlib.Core.Logic.{⊎-elim}
+use Prim.Native.Nat.{_+_, _-_}
 use native.Mathlib.Omega.{arith}
 use denote.Ref.{now}
-use lib.ListN.{length, take, length-set}
-use Rattle.answer.proofs.Each.{turn, turned}
-use Rattle.tandem.specs.Levels.{frameRule, framedLevels}
-use Rattle.tandem.proofs.Turns.{frame-turn}
+use Rattle.answer.proofs.Each.{turned}
+use Rattle.overhead.specs.Overhead.{levelField}
+use Rattle.tandem.specs.Levels.{frameRule, countAt}
+use Rattle.tandem.proofs.Turns.{SoFar, changed, passed-over, frame-turn, frame-stays}
 use borrow.Author.Needs.{needs}
 use Rattle.tandem.proofs.levels_step.Statement.{statement}
 use Rattle.tandem.proofs.levels_step.Tie as tie
 
 abbrev Inv-loop : tie.InvT-loop
-Inv-loop ssf m overhead ls counts levels₀ i₀ levels i =
-    (i ≤ 6) × (length levels ≡ 6) × (take i levels ≡ take i (framedLevels ls ssf m overhead counts))
+Inv-loop ssf m overhead counts levels₀ i₀ levels i = SoFar (frameRule ssf m overhead counts) levels₀ levels₀ levels i
 
 abbrev μ-loop : tie.MeasureT-loop
-μ-loop ssf m overhead ls counts levels₀ i₀ levels i = 6 - i
+μ-loop ssf m overhead counts levels₀ i₀ levels i = 6 - i
 
 loop-holds : tie.Need-loop-holds Inv-loop μ-loop
-loop-holds c = (omega arith, omega arith, refl)
+loop-holds c = (omega arith, omega arith, refl, refl)
+
+mul-if1 : tie.Need-mul-if1 Inv-loop μ-loop
+mul-if1 c = search needs
+
+element-copy-out-if1 : tie.Need-element-copy-out-if1 Inv-loop μ-loop
+element-copy-out-if1 c = search needs
 
 cast-level-field : tie.Need-cast-level-field Inv-loop μ-loop
 cast-level-field c = search needs
@@ -55,19 +61,21 @@ loop-less c = search needs
 
 loop-again : tie.Need-loop-again Inv-loop μ-loop
 loop-again c =
-    let l = c .before .before .before .before .loop in
-    let a = c .before .before .before .before .before .before .args in
+    let l = c .before .before .loop in
+    let a = c .before .before .before .before .args in
     let o = now (a .overhead) in
-    let e = frame-turn _ (a .ssf) (a .m) o (a .t5) (l .i) _ _ (c .before .before .level-field .ensures) (c .one-step .ensures) in
-    let t = turn (frameRule (a .ssf) (a .m) o (a .t5)) 1 (a .t1) (l .levels) (l .i) _ _ (l .inv .2) (omega arith) (omega arith) e in
-    (omega arith, simp length-set (omega arith), t)
+    let rule = frameRule (a .ssf) (a .m) o (a .t5) in
+    ⊎-elim
+    (λ w. changed rule (a .ls) (l .levels) _ (l .i) _ _ (l .inv) (omega arith) (omega arith) (frame-turn _ (a .ssf) (a .m) o (a .t5) (l .i) _ _ (w .1 .ensures) (w .3 .ensures)) (w .4))
+    (λ w. passed-over rule (a .ls) (l .levels) _ (l .i) _ (l .inv) (omega arith) (omega arith) (frame-stays _ (a .ssf) (a .m) (levelField o (1 + l .i)) (countAt (a .t5) (1 + l .i)) (w .0 .left)) (w .1))
+    (c .if1 .came)
 
 returns : tie.Need-returns Inv-loop μ-loop
 returns c =
     let l = c .before .loop in
     let a = c .before .before .before .args in
     let e : l .i ≡ 6 = omega arith in
-    turned (frameRule (a .ssf) (a .m) (now (a .overhead)) (a .t5)) 1 (a .t1) (l .levels) 6 (rw e at (l .inv .2)) (omega arith) (omega arith)
+    turned (frameRule (a .ssf) (a .m) (now (a .overhead)) (a .t5)) 1 (a .ls) (l .levels) 6 (rw e at (l .inv .2)) (omega arith) (omega arith)
 
 pub levels-step-spec : {M : Type 1} → statement M
 levels-step-spec =
@@ -76,6 +84,8 @@ levels-step-spec =
     Inv-loop
     μ-loop
     loop-holds
+    mul-if1
+    element-copy-out-if1
     cast-level-field
     add-level-field
     level-field-requires

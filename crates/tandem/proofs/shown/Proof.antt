@@ -10,9 +10,12 @@ returns : tie.Need-returns
 unfolding levelShown
 returns c = simp (← c .level-stands .ensures, c .before .before .before .if1 .taken)
 
+nothing-stands-requires : tie.Need-nothing-stands-requires
+nothing-stands-requires c κs = search needs
+
 returns-2 : tie.Need-returns-2
 unfolding levelShown
-returns-2 c = simp (c .if1 .left)
+returns-2 c = simp (← c .nothing-stands .ensures, c .before .if1 .left)
 
 pub shown-spec : {M : Type 1} → statement M
-shown-spec = tie.close (tie.spec level-stands-requires returns returns-2)
+shown-spec = tie.close (tie.spec level-stands-requires returns nothing-stands-requires returns-2)

@@ -3,9 +3,12 @@ use borrow.Author.Needs.{needs}
 use Rattle.trace.proofs.take_provisioning.Statement.{statement}
 use Rattle.trace.proofs.take_provisioning.Tie as tie
 
+refused-requires : tie.Need-refused-requires
+refused-requires c κs = search needs
+
 returns : tie.Need-returns
 unfolding provisionedOf
-returns c = simp (c .if1 .taken)
+returns c = simp (c .refused .ensures, c .before .if1 .taken)
 
 section-in-requires : tie.Need-section-in-requires
 section-in-requires c κs = search needs
@@ -37,14 +40,21 @@ part-provision-end-2 c = search needs
 provision-requires : tie.Need-provision-requires
 provision-requires c κs = search needs
 
+fresh-tandem-requires : tie.Need-fresh-tandem-requires
+fresh-tandem-requires c κs = search needs
+
+answered-requires : tie.Need-answered-requires
+answered-requires c κs = search needs
+
 returns-2 : tie.Need-returns-2
 unfolding provisionedOf
-returns-2 c = simp (← c .before .before .before .before .before .before .section-in .ensures, ← c .before .before .before .before .before .path-in .ensures, ← c .before .provision .ensures, c .before .before .before .before .before .before .before .before .before .if1 .left)
+returns-2 c = simp (c .answered .ensures, c .before .fresh-tandem .ensures, c .before .before .before .provision .ensures, c .before .before .before .before .before .before .before .before .section-in .ensures, c .before .before .before .before .before .before .before .path-in .ensures, c .before .before .before .before .before .before .before .before .before .if1 .left)
 
 pub take-provisioning-spec : {M : Type 1} → statement M
 take-provisioning-spec =
     tie.close
     (tie.spec
+    refused-requires
     returns
     section-in-requires
     path-in-requires
@@ -56,4 +66,6 @@ take-provisioning-spec =
     part-provision-start-2
     part-provision-end-2
     provision-requires
+    fresh-tandem-requires
+    answered-requires
     returns-2)

@@ -1,0 +1,4 @@
+pub mod Bytes
+pub mod Trip
+pub mod Kept
+pub mod InBay

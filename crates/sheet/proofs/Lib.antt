@@ -1,0 +1,6 @@
+pub mod Own
+pub mod Defects
+pub mod Seconds
+pub mod Sheet
+pub mod Calls
+pub mod Worked
