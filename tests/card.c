@@ -594,6 +594,32 @@ static void frames(void) {
     memset(names, 0, sizeof names);
 }
 
+/* dTIM by what is compared. One of section, path and levels holds a trace that is not the expected one in one of its 64 bytes: dTIM stands there
+   if the mode compares that byte and the trace is accepted, and nowhere else. */
+static void compared(void) {
+    static uint8_t image[ALL];
+    for (size_t i = 0; i < OTN_NAMES_BYTES; i++) names[i] = (uint8_t)(i + 1);
+    for (uint8_t mode = 0; mode <= OTN_MODE_BOTH; mode++) {
+        check(fresh(ALL, 1, 1, 2, 1, 2, mode, mode, 1, 1, 32, 32) == 0, "fresh, names to compare");
+        for (uint8_t n = 1; n <= OTN_LEVELS; n++) check(level(n, 1, 2, mode, 1, 32) == 0, "level, names to compare");
+        for (int i = 0; i < WATCHED; i++) memcpy(sup + record_at(i) + ACCEPTED, names, OTN_NAMES_BYTES);
+        memcpy(image, sup, ALL);
+        for (int i = 0; i < WATCHED; i++)
+            for (size_t byte = 0; byte < OTN_TRACE_BYTES; byte++)
+                for (uint8_t known = 0; known < 2; known++) {
+                    memcpy(sup, image, ALL);
+                    sup[record_at(i) + ACCEPTED + byte] ^= 0x80;
+                    sup[record_at(i) + STATE] = known;
+                    const uint64_t r = step(0, 0, 0);
+                    const unsigned differs = known && ((byte < 16 && mode & 1) || (byte >= 16 && byte < 32 && mode & 2));
+                    unsigned good = OTN_SECTION_DTIM(r) == (i == 0 && differs) && OTN_PATH_DTIM(r) == (i == 1 && differs);
+                    for (uint8_t n = 1; n <= OTN_LEVELS; n++) good &= OTN_TCM_DTIM(report(n)) == (i == n + 1 && differs);
+                    check(good, "one byte compared");
+                }
+    }
+    memset(names, 0, sizeof names);
+}
+
 /* a frame in alignment with a count of 1 for section, path and each level, or with counts of its own */
 static const uint8_t ones[OTN_LEVELS] = {1, 1, 1, 1, 1, 1};
 static uint64_t counted(uint8_t flags, uint8_t sm, uint8_t pm, const uint8_t t[OTN_LEVELS]) {
@@ -866,7 +892,7 @@ static struct {
     const char *name;
     long bound, deepest;
 } of_call[CALLS] = {{"otn_fresh", 256, 0}, {"otn_level", 384, 0}, {"otn_step", 640, 0}, {"otn_step_levels", 704, 0},
-                    {"otn_mark", 768, 0}, {"otn_trace", 384, 0}, {"otn_level_report", 832, 0}, {"otn_level_trace", 448, 0}};
+                    {"otn_mark", 768, 0}, {"otn_trace", 384, 0}, {"otn_level_report", 320, 0}, {"otn_level_trace", 448, 0}};
 
 static uint8_t stack[1 << 16] __attribute__((aligned(16)));
 static int which;
@@ -960,6 +986,7 @@ int main(int words, char **word) {
     rows();
     ranges();
     frames();
+    compared();
     levels();
     fences();
     if (words == 1) depths();

@@ -24,3 +24,8 @@ cond-under f false x y = refl
 -- a test does not have both values
 pub not-so : true ≡ false → ⊥
 not-so e = let z : _≡_ {A = ℕ} 0 1 = cc in omega arith
+
+-- both tests, as a `cond` says it
+pub and-cond : (a b : Bool) → (a && b) ≡ cond a b false
+and-cond true b = refl
+and-cond false b = refl

@@ -107,18 +107,16 @@ fn lay_cycle(w: &mut [u8], c: Cycle)
     w[2] = (c.equal % 256) as u8;
 }
 
-// dTIM: a trace is accepted and the compared field differs.
+// dTIM: a trace is accepted and the compared field differs. Both names are compared in each frame, whether or not a trace is accepted and
+// whatever the mode.
 fn tim_in(trace: &[u8], names: &[u8], known: bool, mode: u8) -> bool
     ensures { λ r. ⌜ r ≡ timIn known (bytesIn 64 0 (now (trace .entry))) mode (bytesIn 32 0 (now (names .entry))) ⌝ }
 {
-    if known {
-        let accepted = codec::band_in(trace, 0);
-        let expected = codec::strip_in(names, 0);
-        let same = names::compare(&accepted, &expected);
-        return (((mode == 1) | (mode == 3)) & !same.sapi)
-            | (((mode == 2) | (mode == 3)) & !same.dapi);
-    }
-    false
+    let accepted = codec::band_in(trace, 0);
+    let expected = codec::strip_in(names, 0);
+    let same = names::compare(&accepted, &expected);
+    known
+        & ((((mode == 1) | (mode == 3)) & !same.sapi) | (((mode == 2) | (mode == 3)) & !same.dapi))
 }
 
 // A layer's record after its trace: its cycle's numbers and its traces are written.

@@ -1,16 +1,16 @@
 -- Laws of a number in its bytes, each written whole. Assumes nothing.
 use Prim.Native.Nat.{ℕ, _+_, _≤_}
 use mathlib.Core.Path.{_≡_, refl, _∙_}
-use mathlib.Core.Bool.{Bool, true, false, cond}
+use mathlib.Core.Bool.{Bool}
 use mathlib.Core.List.{List, [], _∷_}
 use native.Mathlib.Omega.{arith}
-use lib.ListN.{length, set}
+use lib.ListN.{length, set, getD}
 use borrow.Author.Tests.{eq-eqb}
 use Rattle.codec.proofs.Overs.{byte-in}
 use Rattle.codec.specs.Over.{bytesIn}
 use Rattle.filter.specs.declared.Filter.{Filter}
 use Rattle.filter.specs.Filter.{filterOf}
-use Rattle.fields.specs.Fields.{sized, filterAt, filterBytes, FilterStep, flagsIn}
+use Rattle.fields.specs.Fields.{sized, filterAt, filterBytes, FilterStep, raised, flagsIn}
 
 pub two : (w : List ℕ) (x y : ℕ) → length w ≡ 2 → set (set w 0 x) 1 y ≡ x ∷ y ∷ []
 two (a ∷ b ∷ []) x y e = refl
@@ -28,34 +28,11 @@ four (a ∷ b ∷ c ∷ d ∷ f ∷ l) x y z u e = absurd (omega arith)
 
 -- the four flags of the second, each raised or left
 pub flags-is : (w : List ℕ) (a b c d : Bool) → length w ≡ 4
-    → let v : List ℕ = cond a (set w 0 1) w in
-    let x : List ℕ = cond b (set v 1 1) v in
-    let y : List ℕ = cond c (set x 2 1) x in
-    cond d (set y 3 1) y ≡ flagsIn a b c d w
-flags-is (p ∷ q ∷ r ∷ s ∷ []) a b c d e = by a b c d
-  where
-    by : (a b c d : Bool)
-        → let w : List ℕ = p ∷ q ∷ r ∷ s ∷ [] in
-        let v : List ℕ = cond a (set w 0 1) w in
-        let x : List ℕ = cond b (set v 1 1) v in
-        let y : List ℕ = cond c (set x 2 1) x in
-        cond d (set y 3 1) y ≡ flagsIn a b c d w
-    by true true true true = refl
-    by true true true false = refl
-    by true true false true = refl
-    by true true false false = refl
-    by true false true true = refl
-    by true false true false = refl
-    by true false false true = refl
-    by true false false false = refl
-    by false true true true = refl
-    by false true true false = refl
-    by false true false true = refl
-    by false true false false = refl
-    by false false true true = refl
-    by false false true false = refl
-    by false false false true = refl
-    by false false false false = refl
+    → let v : List ℕ = set w 0 (raised a (getD w 0 0)) in
+    let x : List ℕ = set v 1 (raised b (getD v 1 0)) in
+    let y : List ℕ = set x 2 (raised c (getD x 2 0)) in
+    set y 3 (raised d (getD y 3 0)) ≡ flagsIn a b c d w
+flags-is (p ∷ q ∷ r ∷ s ∷ []) a b c d e = refl
 flags-is [] a b c d e = absurd (omega arith)
 flags-is (p ∷ []) a b c d e = absurd (omega arith)
 flags-is (p ∷ q ∷ []) a b c d e = absurd (omega arith)

@@ -4,6 +4,7 @@ use mathlib.Core.Path.{_≡_}
 use mathlib.Core.Bool.{Bool, cond}
 use mathlib.Core.List.{List, [], _∷_}
 use Prim.Native.Nat.{ℕ, _+_}
+use lib.Bits.{bitOr}
 use lib.Dec.{eqb}
 use lib.ListN.{length, getD}
 use Rattle.answer.specs.Bits.{flag}
@@ -39,7 +40,7 @@ statLaid w s = sized 4 w (statBytes s) w
 
 -- four flags of the second (near and far DS, whether dIAE and dBIAE stood): once raised they stay
 abbrev pub raised : Bool → ℕ → ℕ
-raised more x = cond more 1 x
+raised more x = bitOr x (flag more)
 
 abbrev pub flagsIn : Bool → Bool → Bool → Bool → List ℕ → List ℕ
 flagsIn near far iae biae w = raised near (getD w 0 0) ∷ raised far (getD w 1 0) ∷ raised iae (getD w 2 0) ∷ raised biae (getD w 3 0) ∷ []

@@ -3,10 +3,9 @@
 use filter::Filter;
 use filter::Stat;
 ghost use mathlib.Core.Path.{_≡_};
-ghost use mathlib.Core.Bool.{cond};
 ghost use Prim.Native.Nat.{_<_};
-ghost use lib.ListN.{length, set};
-ghost use Rattle.fields.specs.Fields.{countedBy, countsIn, FilterStep, statLaid, flagsLaid};
+ghost use lib.ListN.{length, set, getD};
+ghost use Rattle.fields.specs.Fields.{countedBy, countsIn, FilterStep, statLaid, raised, flagsLaid};
 
 fn wide(x: u8) -> u32
     ensures { λ r. ⌜ r ≡ x ⌝ }
@@ -44,14 +43,12 @@ pub fn lay_stat(w: &mut [u8], s: Stat)
     }
 }
 
-// A flag of the second: once raised it stays.
+// A flag of the second: once raised it stays. It is written either way, so that the work is the same.
 fn raise(w: &mut [u8], i: usize, more: bool)
     requires { ⌜ i < length (now w) ⌝ }
-    ensures { λ _. ⌜ now (w .exit) ≡ cond more (set (now (w .entry)) i 1) (now (w .entry)) ⌝ }
+    ensures { λ _. ⌜ now (w .exit) ≡ set (now (w .entry)) i (raised more (getD (now (w .entry)) i 0)) ⌝ }
 {
-    if more {
-        w[i] = 1;
-    }
+    w[i] = w[i] | more as u8;
 }
 
 // The four flags of the second.

@@ -1,5 +1,6 @@
 // Counters that stop at their bound, the filter of n and n, and three in a row.
 ghost use mathlib.Core.Path.{_≡_};
+ghost use mathlib.Core.Bool.{false};
 ghost use Rattle.filter.specs.Filter.{upOf, filterOf};
 ghost use Rattle.filter.specs.Stat.{statOf};
 
@@ -27,13 +28,10 @@ pub fn up(run: u32, n: u32) -> u32
     n
 }
 
-// The filter after one more bit; forgotten where `forget`.
-pub fn filter_step(f: Filter, n: u32, forget: bool, bit: bool) -> Filter
-    ensures { λ r. ⌜ r ≡ filterOf f n forget bit ⌝ }
+// The filter after one more bit, where nothing is forgotten.
+fn filter_met(f: Filter, n: u32, bit: bool) -> Filter
+    ensures { λ r. ⌜ r ≡ filterOf f n false bit ⌝ }
 {
-    if forget {
-        return Filter { on: false, run: 0 };
-    }
     if bit == f.on {
         return Filter { on: f.on, run: 0 };
     }
@@ -42,6 +40,17 @@ pub fn filter_step(f: Filter, n: u32, forget: bool, bit: bool) -> Filter
         return Filter { on: bit, run: 0 };
     }
     Filter { on: f.on, run: run }
+}
+
+// The filter after one more bit; forgotten where `forget`, and its work done all the same.
+pub fn filter_step(f: Filter, n: u32, forget: bool, bit: bool) -> Filter
+    ensures { λ r. ⌜ r ≡ filterOf f n forget bit ⌝ }
+{
+    let met = filter_met(f, n, bit);
+    if forget {
+        return Filter { on: false, run: 0 };
+    }
+    met
 }
 
 // The value after one more frame; forgotten where `forget`.

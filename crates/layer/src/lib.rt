@@ -93,15 +93,13 @@ pub fn layer_step(l: Layer, forget: bool, inmulti: bool, number: u8, tti: u8, bd
     }
 }
 
-// dTIM: a trace is accepted and the compared field differs.
+// dTIM: a trace is accepted and the compared field differs. Both names are compared in each frame, whether or not a trace is accepted and
+// whatever the mode.
 pub fn tim(l: Layer, mode: u8, expected: [u8; 32]) -> bool
     ensures { λ r. ⌜ r ≡ timOf l mode expected ⌝ }
 {
-    if l.known {
-        let accepted = l.accepted;
-        let same = names::compare(&accepted, &expected);
-        return (((mode == 1) | (mode == 3)) & !same.sapi)
-            | (((mode == 2) | (mode == 3)) & !same.dapi);
-    }
-    false
+    let accepted = l.accepted;
+    let same = names::compare(&accepted, &expected);
+    l.known
+        & ((((mode == 1) | (mode == 3)) & !same.sapi) | (((mode == 2) | (mode == 3)) & !same.dapi))
 }

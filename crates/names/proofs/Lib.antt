@@ -1,3 +1,4 @@
+pub mod Counted
 pub mod Refuted
 pub mod Same
 pub mod Unique

@@ -10,4 +10,4 @@ pub same-trace-one : OneAnswer 2 same-trace-kinds.ps same-trace-kinds.r same-tra
 same-trace-one κs a x y s t p q = p ∙ sym q
 
 pub compare-one : OneAnswer 2 compare-kinds.ps compare-kinds.r compare-reads.Post
-compare-one κs a x y s t p q = p ∙ sym q
+compare-one κs a x y s t p q = p .answers ∙ sym (q .answers)

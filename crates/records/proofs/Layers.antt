@@ -213,7 +213,7 @@ module _ (h : Held) (z : Sizes h) (fits : StateFits (h .state)) where
       let b : Blocks = blocksOf (h .state .blocks) (record { stopped = stops; near = leb 1 pm; far = farBlock (f .bei); neards = stops || tim; fards = bdi .on }) in
       let q : Filter → List ℕ = λ (x : Filter).
       filterBytes x ++ (filterBytes (h .state .iae) ++ (filterBytes (h .state .biae) ++ (statBytes t
-      ++ (raised (stops || tim) (flag (h .state .blocks .neards)) ∷ raised (x .on) (flag (h .state .blocks .fards)) ∷ flag (h .state .iaeseen) ∷ flag (h .state .biaeseen)
+      ++ (raised (stops || tim) (flag (h .state .blocks .neards)) ∷ raised (x .on) (flag (h .state .blocks .fards)) ∷ raised false (flag (h .state .iaeseen)) ∷ raised false (flag (h .state .biaeseen))
       ∷ 0 ∷ 0 ∷ 0 ∷ 0 ∷ 0 ∷ 0 ∷ 0 ∷ (countsIn (leb 1 pm && not stops) (farBlock (f .bei) && not stops) (le4 (h .state .blocks .near .0) ++ le4 (h .state .blocks .far .0)) ++ []))))) in
       ap q (bdi-is forget f)
       ∙ ap (λ (r : List ℕ). filterBytes bdi ++ (filterBytes (h .state .iae) ++ (filterBytes (h .state .biae) ++ (statBytes t ++ r))))

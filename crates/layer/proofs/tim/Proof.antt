@@ -1,3 +1,4 @@
+use Rattle.answer.proofs.Cond.{and-cond}
 use Rattle.layer.specs.Layer.{timOf}
 use borrow.Author.Needs.{needs}
 use Rattle.layer.proofs.tim.Statement.{statement}
@@ -8,11 +9,7 @@ compare-requires c κs = search needs
 
 returns : tie.Need-returns
 unfolding timOf
-returns c = simp (← c .before .before .compare .ensures, c .before .before .before .before .before .before .if1 .taken)
-
-returns-2 : tie.Need-returns-2
-unfolding timOf
-returns-2 c = simp (c .if1 .left)
+returns c = rw (← c .before .before .before .compare .ensures .answers) (and-cond (c .before .before .before .before .before .before .before .args .l .known) _)
 
 pub tim-spec : {M : Type 1} → statement M
-tim-spec = tie.close (tie.spec compare-requires returns returns-2)
+tim-spec = tie.close (tie.spec compare-requires returns)
