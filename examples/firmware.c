@@ -1,6 +1,7 @@
 /* A small firmware loop: one supervisor for one line and two of its tandem levels, a frame at a time, a mark each second, and what stands
    in words.
-   In a card, `next_frame` is the framer chip, and a second is 1 s of its frames; here a line is made up, with 100 frames a second.
+   In a card, `next_frame` is the framer chip, and a second is 1 s of its frames; here a line is made up, with 100 frames a second. A
+   second is told one mark late, and the last one at the end.
 
    cc -o firmware examples/firmware.c target/staticlib/libcard.a */
 #include "../include/otn.h"
@@ -20,8 +21,8 @@ struct frame {
 static const uint8_t levels[] = {1, 4};
 #define WATCHED (sizeof levels / sizeof levels[0])
 
-/* A made-up line: five seconds of good frames, of a path that is locked, of lost framing, of good frames again, and of a TCM4 whose
-   source is gone. */
+/* A made-up line: six seconds of good frames, of a path that is locked, of lost framing, of errored blocks, of more of them and a TCM4
+   whose source is gone, and of an alignment error, which voids the section's figures of its second and of the one before. */
 static struct frame next_frame(unsigned n) {
     static const uint8_t fas[6] = {0xf6, 0xf6, 0xf6, 0x28, 0x28, 0x28};
     unsigned second = n / FRAMES_A_SECOND;
@@ -33,8 +34,9 @@ static struct frame next_frame(unsigned n) {
     }
     if (second == 1) f.overhead[43] = 5; /* path STAT 101 */
     f.overhead[40] = 1; /* STAT 001 of TCM1: in use */
-    if (second != 4) f.overhead[28] = 1; /* and of TCM4 */
-    if (second == 3 && n % 10 == 0) f.sm_violations = 2, f.tcm_violations[0] = 1;
+    if (second < 4) f.overhead[28] = 1; /* and of TCM4 */
+    if ((second == 3 || second == 4) && n % 10 == 0) f.sm_violations = 2, f.tcm_violations[0] = 1;
+    if (second == 5 && n % FRAMES_A_SECOND < 20) f.overhead[9] = 4; /* section IAE */
     return f;
 }
 
@@ -42,9 +44,10 @@ static const char *const head_in_words[10] = {"clear",          "line signal fai
                                               "section trace mismatch", "path AIS",  "path open", "path locked", "path trace mismatch"};
 
 static void say(unsigned n, uint64_t report) {
-    printf("frame %3u: %s;%s%s%s%s%s%s\n", n, head_in_words[otn_head(report)], OTN_IF(report) ? " in frame" : " out of frame",
+    printf("frame %3u: %s;%s%s%s%s%s%s%s\n", n, head_in_words[otn_head(report)], OTN_IF(report) ? " in frame" : " out of frame",
            OTN_IM(report) ? ", in multiframe" : ", out of multiframe", OTN_CLOF(report) ? ", cause LOF" : "",
-           OTN_CLOM(report) ? ", cause LOM" : "", OTN_PATH_CLCK(report) ? ", cause LCK" : "", OTN_PATH_ATSF(report) ? ", path failed" : "");
+           OTN_CLOM(report) ? ", cause LOM" : "", OTN_PATH_CLCK(report) ? ", cause LCK" : "", OTN_PATH_ATSF(report) ? ", path failed" : "",
+           OTN_SECTION_DIAE(report) ? ", alignment error" : "");
 }
 
 static void say_level(unsigned n, unsigned level, uint64_t report) {
@@ -52,13 +55,7 @@ static void say_level(unsigned n, unsigned level, uint64_t report) {
            OTN_TCM_CLTC(report) ? ", cause LTC" : "", OTN_TCM_CDEG(report) ? ", cause DEG" : "");
 }
 
-static void close_second(uint8_t *sup) {
-    uint8_t record[OTN_RECORD_BYTES];
-    uint64_t answer = otn_mark(sup, OTN_SUPERVISOR_BYTES, record, sizeof record);
-    if (answer != OTN_ACCEPTED) {
-        printf("mark refused: %u\n", otn_refusal(answer));
-        return;
-    }
+static void say_second(const uint8_t *record) {
     printf("second %u: %u frames", (unsigned)otn_figure(record, OTN_SECOND), (unsigned)otn_figure(record, OTN_FRAMES));
     for (unsigned head = 0; head < 10; head++) {
         unsigned under = (unsigned)otn_figure(record, OTN_UNDER + head);
@@ -70,6 +67,20 @@ static void close_second(uint8_t *sup) {
         printf(", TCM%u %u near, %u far", levels[i], (unsigned)otn_level_figure(record, levels[i], OTN_LEVEL_NEAR),
                (unsigned)otn_level_figure(record, levels[i], OTN_LEVEL_FAR));
     printf("\n");
+}
+
+/* The clock's tick: the record is that of the second before the one that is closed. At the first tick there is none. */
+static void close_second(uint8_t *sup) {
+    uint8_t record[OTN_RECORD_BYTES];
+    uint64_t answer = otn_mark(sup, OTN_SUPERVISOR_BYTES, record, sizeof record);
+    if (otn_refusal(answer) != OTN_ACCEPTED) printf("mark refused: %u\n", otn_refusal(answer));
+    if (otn_reported(answer)) say_second(record);
+}
+
+/* Before the supervisor is given up: the last second that was closed is not reported yet. */
+static void shut_down(const uint8_t *sup) {
+    uint8_t record[OTN_RECORD_BYTES];
+    if (otn_reported(otn_pending(sup, OTN_SUPERVISOR_BYTES, record, sizeof record))) say_second(record);
 }
 
 int main(void) {
@@ -90,7 +101,7 @@ int main(void) {
     }
     uint64_t before = 0, level_before[WATCHED];
     for (size_t i = 0; i < WATCHED; i++) level_before[i] = otn_level_report(sup, sizeof sup, levels[i]);
-    for (unsigned n = 0; n < 5 * FRAMES_A_SECOND; n++) {
+    for (unsigned n = 0; n < 6 * FRAMES_A_SECOND; n++) {
         struct frame f = next_frame(n);
         const uint8_t *t = f.tcm_violations;
         uint64_t report = otn_step_levels(sup, sizeof sup, f.overhead, sizeof f.overhead, f.flags, f.sm_violations, f.pm_violations,
@@ -109,5 +120,6 @@ int main(void) {
         }
         if ((n + 1) % FRAMES_A_SECOND == 0) close_second(sup);
     }
+    shut_down(sup);
     return 0;
 }

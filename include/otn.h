@@ -1,8 +1,9 @@
 /* otn.h: a supervisor for the receiving end of one OTUk, the ODUk path in it and its tandem levels TCM1 to TCM6, k = 1, 2 or 3.
 
-   Eight calls on numbers and bytes. The supervisor is a buffer of OTN_SUPERVISOR_BYTES that the caller owns: otn_fresh fills it,
-   otn_level provisions a tandem level, otn_step or otn_step_levels takes one frame's overhead, otn_mark closes a second. otn_trace,
-   otn_level_report and otn_level_trace read it: an accepted trace, and what stands of a level. Link with libcard.a.
+   Nine calls on numbers and bytes. The supervisor is a buffer of OTN_SUPERVISOR_BYTES that the caller owns: otn_fresh fills it,
+   otn_level provisions a tandem level, otn_step or otn_step_levels takes one frame's overhead, otn_mark closes a second and reports
+   the one before it. otn_pending, otn_trace, otn_level_report and otn_level_trace read it: the second that is closed and not reported
+   yet, an accepted trace, and what stands of a level. Link with libcard.a.
 
    Every call takes any bytes and any numbers, and ends. Its answer's low byte is the refusal, 0 where the call is accepted
    (otn_refusal); a refused call changes no byte that it was lent and answers nothing but that number. No check is owed beforehand
@@ -25,7 +26,7 @@
 extern "C" {
 #endif
 
-#define OTN_SUPERVISOR_BYTES 2448
+#define OTN_SUPERVISOR_BYTES 2620
 #define OTN_OVERHEAD_BYTES 64
 #define OTN_RECORD_BYTES 176
 #define OTN_TRACE_BYTES 64
@@ -108,10 +109,24 @@ uint64_t otn_step(uint8_t *sup, size_t sup_len, const uint8_t *overhead, size_t 
 uint64_t otn_step_levels(uint8_t *sup, size_t sup_len, const uint8_t *overhead, size_t overhead_len, uint8_t flags, uint8_t sm,
                          uint8_t pm, uint8_t t1, uint8_t t2, uint8_t t3, uint8_t t4, uint8_t t5, uint8_t t6);
 
-/* A mark: closes the second. Its record is 44 little-endian 32-bit words: 20 of line, section and path (enum otn_figure below), then
-   four of each level 1 to 6 (enum otn_level_figure), zeros where it is not provisioned. A record of another length gets the first
-   bytes that it has room for, and bytes beyond 176 are left alone. Refuses 17, then 4. */
+/* A mark: closes the open second, and reports the one before it, which was pending until now. So a second is reported one mark late:
+   the first mark reports none, answers 0 and leaves the record alone; each later one has otn_reported(answer), and fills the record.
+
+   The record is 44 little-endian 32-bit words: 20 of line, section and path (enum otn_figure below), then four of each level 1 to 6
+   (enum otn_level_figure), zeros where it is not provisioned. A record of another length gets the first bytes that it has room for,
+   and bytes beyond 176 are left alone.
+
+   An alignment error voids figures of its own second and of the one before: where dIAE stood in some frame of the reported second or
+   of the one just closed, the section's four are 0; where dBIAE did, its two of the far end. A level's likewise, by its own dIAE and
+   dBIAE. Number, frames, heads and the path's figures are never voided.
+
+   Refuses 17, then 4. A refused mark leaves the pending second pending. */
 uint64_t otn_mark(uint8_t *sup, size_t sup_len, uint8_t *record, size_t record_len);
+
+/* The pending second, which is the last one closed, as if it were reported now: voided by its own alignment errors alone. For the last
+   second of all, which no mark reports: call it before shutting down. otn_reported(answer) where there is one, and the record is
+   filled as by otn_mark; before the first mark there is none, and the record is left alone. sup is not changed. Refuses 17. */
+uint64_t otn_pending(const uint8_t *sup, size_t sup_len, uint8_t *record, size_t record_len);
 
 /* The accepted trace of a layer, 64 bytes: SAPI is bytes 0 to 15, DAPI 16 to 31. sup is not changed. Refuses 17, then 11 to 13. */
 uint64_t otn_trace(const uint8_t *sup, size_t sup_len, uint8_t layer, uint8_t *out, size_t out_len);
@@ -126,6 +141,9 @@ uint64_t otn_level_trace(const uint8_t *sup, size_t sup_len, uint8_t level, uint
 
 /* The refusal of any answer: 0 where the call was accepted. */
 static inline unsigned otn_refusal(uint64_t answer) { return (unsigned)(answer & 0xff); }
+
+/* Whether otn_mark or otn_pending filled the record: 1, or 0 where there was no second to tell, or a refusal. */
+static inline unsigned otn_reported(uint64_t answer) { return (unsigned)(answer >> 8 & 1); }
 
 /* The report of an accepted frame. IF, IM and every defect are as they stand after the frame. */
 static inline unsigned otn_report_bit(uint64_t report, unsigned bit) { return (unsigned)(report >> bit & 1); }
@@ -201,7 +219,7 @@ static inline unsigned otn_path_abei(uint64_t report) { return (unsigned)(report
 #define OTN_TCM_CDEG(r) otn_report_bit(r, 26)
 #define OTN_TCM_CBDI(r) otn_report_bit(r, 27)
 
-/* The figures of a closed second, read from a record of OTN_RECORD_BYTES. */
+/* The figures of a reported second, read from a record of OTN_RECORD_BYTES. */
 enum otn_figure {
     OTN_SECOND = 0,       /* its number, from 1 */
     OTN_FRAMES = 1,

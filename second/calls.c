@@ -7,19 +7,21 @@
  *   S sup  len(2) bytes flags sm pm                                                   otn_step
  *   N sup  len(2) bytes flags sm pm t1 t2 t3 t4 t5 t6                                 otn_step_levels
  *   M sup  room(2) fill                                                               otn_mark
+ *   Q sup  room(2) fill                                                               otn_pending
  *   T sup  layer room(2) fill                                                         otn_trace
  *   P sup  level                                                                      otn_level_report
  *   U sup  level room(2) fill                                                         otn_level_trace
  *   Z                                                                                 write out what is gathered
- * sup is one byte: 0 the supervisor; 1 it less its last byte; 2 with a byte more; 3 none of it; 4 its right length, all FF bytes.
- * Answer: the word (8), a byte of complaints (0: none), and for M, T and U the lent buffer as it is after the call. */
+ * sup is one byte: 0 the supervisor; 1 it less its last byte; 2 with a byte more; 3 none of it; 4 its right length, all FF bytes; 5 to 47 it,
+ * with number sup - 5 of the pending second's 43, which are its last 172 bytes, one beyond its range.
+ * Answer: the word (8), a byte of complaints (0: none), and for M, Q, T and U the lent buffer as it is after the call. */
 #include "otn.h"
 #include <stdio.h>
 #include <stdlib.h>
 #include <string.h>
 #include <unistd.h>
 
-enum { GUARD = 33 }; /* odd, so that no lent buffer is aligned */
+enum { GUARD = 33, PENDING = 43 }; /* odd, so that no lent buffer is aligned; and how many numbers the pending second has */
 enum { INPUT_CHANGED = 1, GUARD_BROKEN = 2, SUPERVISOR_CHANGED = 4, BUFFER_CHANGED = 8 };
 
 static uint8_t in[1 << 16], out[1 << 16];
@@ -106,21 +108,27 @@ static void take(struct lent *l)
 
 int main(void)
 {
-    static struct lent right, less, more, none, beyond, a, b;
-    struct lent *sups[5] = {&right, &less, &more, &none, &beyond};
+    static struct lent right, less, more, none, beyond, pending, a, b;
+    struct lent *sups[6] = {&right, &less, &more, &none, &beyond, &pending};
     lend(&right, OTN_SUPERVISOR_BYTES), lend(&less, OTN_SUPERVISOR_BYTES - 1), lend(&more, OTN_SUPERVISOR_BYTES + 1);
-    lend(&none, 0), lend(&beyond, OTN_SUPERVISOR_BYTES);
+    lend(&none, 0), lend(&beyond, OTN_SUPERVISOR_BYTES), lend(&pending, OTN_SUPERVISOR_BYTES);
     for (int order; (order = get()) >= 0;) {
         if (order == 'Z') {
             flush();
             continue;
         }
         const uint8_t which = byte();
-        if (which > 4) exit(5);
-        struct lent *s = sups[which];
+        if (which >= 5 + PENDING) exit(5);
+        struct lent *s = sups[which < 5 ? which : 5];
         if (which == 1) memcpy(s->bytes, right.bytes, s->len);
         if (which == 2) memcpy(s->bytes, right.bytes, right.len), s->bytes[right.len] = 0;
         if (which == 4) memset(s->bytes, 0xFF, s->len);
+        if (which >= 5) {
+            const int n = which - 5;
+            const uint32_t v = n >= 11 && (n - 11) % 4 >= 2 ? 2 : 400001; /* DS; frames and blocks */
+            memcpy(s->bytes, right.bytes, s->len);
+            for (int i = 0; i < 4; i++) s->bytes[s->len - 4 * PENDING + 4 * n + i] = (uint8_t)(v >> 8 * i);
+        }
         remember(s);
         uint64_t answer;
         uint8_t complaints = 0;
@@ -158,14 +166,16 @@ int main(void)
                 answer = otn_step_levels(s->bytes, s->len, a.bytes, a.len, flags, sm, pm, t[0], t[1], t[2], t[3], t[4], t[5]);
             }
             if (changed(&a)) complaints |= INPUT_CHANGED;
-        } else if (order == 'M' || order == 'T' || order == 'U') {
-            const uint8_t of = order == 'M' ? 0 : byte();
+        } else if (order == 'M' || order == 'Q' || order == 'T' || order == 'U') {
+            const uint8_t of = order == 'M' || order == 'Q' ? 0 : byte();
             lend(&a, number(2));
             const uint8_t fill = byte();
             memset(a.bytes, fill, a.len);
             remember(&a);
             if (order == 'M')
                 answer = otn_mark(s->bytes, s->len, a.bytes, a.len);
+            else if (order == 'Q')
+                answer = otn_pending(s->bytes, s->len, a.bytes, a.len);
             else if (order == 'T')
                 answer = otn_trace(s->bytes, s->len, of, a.bytes, a.len);
             else

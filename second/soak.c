@@ -6,9 +6,11 @@
  * it ends the run, whatever the library was built with. Held for each call:
  *   - it ends, with a refusal number that the call may answer, and by the order of the numbers where the supervisor is sound;
  *   - a refusal is its number and nothing else, and the supervisor and every lent buffer keep their contents;
- *   - an accepted frame answers nothing in bits 0 to 7 and 56 to 63 and a head of 0 to 9, a level's report bits 8 to 27 alone, any other
- *     call 0; and it leaves a supervisor that is accepted again;
- *   - what is lent to be read is not written.
+ *   - an accepted frame answers nothing in bits 0 to 7 and 56 to 63 and a head of 0 to 9, a level's report bits 8 to 27 alone, a mark and
+ *     otn_pending bit 8 alone, any other call 0; and it leaves a supervisor that is accepted again;
+ *   - what is lent to be read is not written, nor is a record where bit 8 does not stand;
+ *   - the pending second's 43 numbers are the supervisor's last 172 bytes: any in its range is accepted and told by otn_pending, one beyond it
+ *     is refused with 17.
  * The supervisors: fresh ones stepped on, ones with some bytes changed (these go on too, if accepted), and noise of any length. */
 #define _DEFAULT_SOURCE
 #include "otn.h"
@@ -18,7 +20,7 @@
 #include <string.h>
 #include <sys/mman.h>
 
-enum { PAGE = 4096, PAGES = 8, BESIDE = 128, SUP = OTN_SUPERVISOR_BYTES, MOST = 2 * SUP + 200 };
+enum { PAGE = 4096, PAGES = 8, BESIDE = 128, SUP = OTN_SUPERVISOR_BYTES, MOST = 2 * SUP + 200, PENDING = 43 };
 
 static uint64_t state;
 static uint64_t next(void)
@@ -69,8 +71,8 @@ static int around(const struct lent *l)
     return memcmp(l->at_start ? l->bytes + l->len : l->bytes - BESIDE, c3, BESIDE) == 0;
 }
 
-enum { FRESH, LEVEL, STEP, STEP_LEVELS, MARK, TRACE, LEVEL_REPORT, LEVEL_TRACE };
-static uint64_t calls, answered[20], traces_read, level_traces_read;
+enum { FRESH, LEVEL, STEP, STEP_LEVELS, MARK, PENDING_SECOND, TRACE, LEVEL_REPORT, LEVEL_TRACE, ORDERS };
+static uint64_t calls, answered[20], traces_read, level_traces_read, told, pending_tried;
 static uint8_t count;
 static uint64_t seed;
 static void fail(const char *call, uint64_t answer, const char *what)
@@ -164,14 +166,14 @@ static uint64_t call(uint8_t *sup, size_t len, int sound, int order)
             answer = otn_step_levels(s, len, a_lent.bytes, n, flags, sm, pm, t[0], t[1], t[2], t[3], t[4], t[5]);
         may = 1 << 17 | 1 << expected | (expected ? 0 : 1 << 4);
         if (sound && !(answer & 255)) count++; /* the sound one's MFAS goes on */
-    } else if (order == MARK) {
-        name = "otn_mark";
+    } else if (order == MARK || order == PENDING_SECOND) {
+        name = order == MARK ? "otn_mark" : "otn_pending";
         lend(&a_lent, NULL, below(2) ? OTN_RECORD_BYTES : below(300));
-        answer = otn_mark(s, len, a_lent.bytes, a_lent.len);
-        may = 1 << 17 | 1 << 0 | 1 << 4;
-        reads_a = 0;
+        answer = order == MARK ? otn_mark(s, len, a_lent.bytes, a_lent.len) : otn_pending(s, len, a_lent.bytes, a_lent.len);
+        may = 1 << 17 | 1 << 0 | (order == MARK ? 1 << 4 : 0);
+        reads_a = answer >> 8 == 0;
         const size_t past = OTN_RECORD_BYTES;
-        if (answer == 0 && a_lent.len > past && memcmp(a_lent.bytes + past, a_lent.copy + past, a_lent.len - past))
+        if (answer >> 8 && a_lent.len > past && memcmp(a_lent.bytes + past, a_lent.copy + past, a_lent.len - past))
             fail(name, answer, "bytes past the record were written");
     } else if (order == LEVEL_REPORT) {
         name = "otn_level_report";
@@ -201,16 +203,18 @@ static uint64_t call(uint8_t *sup, size_t len, int sound, int order)
     if (order != FRESH && len != SUP && refusal != 17) fail(name, answer, "the supervisor's length is wrong");
     if (sound && refusal == 17) fail(name, answer, "no history from fresh meets 17");
     if (refusal && answer != refusal) fail(name, answer, "a refusal answers its number and nothing else");
-    const int steps = order == STEP || order == STEP_LEVELS, only_reads = order >= TRACE;
+    const int steps = order == STEP || order == STEP_LEVELS, only_reads = order >= PENDING_SECOND, tells = order == MARK || order == PENDING_SECOND;
     if (steps && (answer >> 56 || (answer >> 8 & 15) > 9)) fail(name, answer, "bits that cannot stand");
     if (order == LEVEL_REPORT && (answer >> 28 || (!refusal && answer && !(answer >> 8 & 1)))) fail(name, answer, "bits that cannot stand");
-    if (!steps && order != LEVEL_REPORT && !refusal && answer) fail(name, answer, "only a frame and a level's report report");
+    if (tells && answer >> 9) fail(name, answer, "bits that cannot stand");
+    if (!steps && !tells && order != LEVEL_REPORT && !refusal && answer) fail(name, answer, "this call answers 0");
     if (refusal && !kept(&sup_lent)) fail(name, answer, "a refused call changed the supervisor");
     if (only_reads && !kept(&sup_lent)) fail(name, answer, "a reading changed the supervisor");
     if ((refusal || reads_a) && !kept(&a_lent)) fail(name, answer, "a lent buffer was changed");
     if (!kept(&b_lent)) fail(name, answer, "a lent buffer was changed");
     if (!around(&sup_lent) || !around(&a_lent) || !around(&b_lent)) fail(name, answer, "bytes beside a lent buffer were written");
     answered[refusal]++;
+    told += tells && answer >> 8;
     traces_read += order == TRACE && !refusal;
     level_traces_read += order == LEVEL_TRACE && !refusal;
     if (!refusal) {
@@ -219,6 +223,25 @@ static uint64_t call(uint8_t *sup, size_t len, int sound, int order)
         if (otn_trace(s, len, 2, none, 1) != 11) fail(name, answer, "what it left is not accepted again");
     }
     return answer;
+}
+
+/* One number of the pending second in its range or beyond it, in a copy of a sound supervisor. What a level that is not provisioned shows is
+ * left open. */
+static void pending_number(const uint8_t *sound)
+{
+    static uint8_t other[SUP];
+    uint8_t record[OTN_RECORD_BYTES] = {0};
+    const unsigned n = (unsigned)below(PENDING);
+    const uint32_t greatest = n >= 11 && (n - 11) % 4 >= 2 ? 1 : 400000; /* DS; frames and blocks */
+    const uint32_t v = below(2) ? greatest + (uint32_t)below(2) : below(2) ? (uint32_t)below(greatest + 1) : (uint32_t)(next() >> below(64));
+    memcpy(other, sound, SUP);
+    for (int i = 0; i < 4; i++) other[SUP - 4 * PENDING + 4 * n + i] = (uint8_t)(v >> 8 * i);
+    const uint64_t answer = otn_pending(other, SUP, record, sizeof record);
+    calls++, pending_tried++;
+    if ((answer & 255) != (v > greatest ? 17 : 0)) fail("otn_pending", answer, "a pending number's range is another");
+    const uint8_t *at = record + 4 * (n + 1);
+    if (answer >> 8 && n < 19 && (uint32_t)(at[0] | at[1] << 8 | at[2] << 16 | (uint32_t)at[3] << 24) != v)
+        fail("otn_pending", answer, "a pending number is told otherwise");
 }
 
 int main(int argc, char **argv)
@@ -237,8 +260,10 @@ int main(int argc, char **argv)
             if (o == 0) { /* anew, with some levels */
                 if (call(sound, SUP, 1, FRESH) == 0)
                     for (uint64_t n = below(10); n; n--) call(sound, SUP, 1, LEVEL);
-            } else
-                call(sound, SUP, 1, o < 180 ? STEP : o < 350 ? STEP_LEVELS : o < 365 ? MARK : o < 370 ? LEVEL : TRACE + (int)below(3));
+            } else if (o < 8)
+                pending_number(sound);
+            else
+                call(sound, SUP, 1, o < 180 ? STEP : o < 350 ? STEP_LEVELS : o < 365 ? MARK : o < 370 ? LEVEL : PENDING_SECOND + (int)below(4));
         } else if (sort < 90) { /* a changed one, and on with it */
             memcpy(other, sound, SUP);
             for (uint64_t n = 1 + below(3); n; n--) {
@@ -247,7 +272,7 @@ int main(int argc, char **argv)
             }
             mutated++;
             for (uint64_t n = 1 + below(20); n; n--) {
-                const uint64_t answer = call(other, SUP, 0, 1 + (int)below(7)) & 255;
+                const uint64_t answer = call(other, SUP, 0, 1 + (int)below(ORDERS - 1)) & 255;
                 if (answer == 17) break;
                 mutated_accepted += answer == 0;
             }
@@ -255,13 +280,13 @@ int main(int argc, char **argv)
             const size_t len = below(3) ? SUP : below(MOST);
             const int fill = (int)below(3);
             for (size_t i = 0; i < len; i++) other[i] = fill == 0 ? 0 : fill == 1 ? 0xFF : (uint8_t)next();
-            call(other, len, 0, (int)below(8));
+            call(other, len, 0, (int)below(ORDERS));
         }
     }
     printf("soak: seed %" PRIu64 ", %" PRIu64 " calls, %" PRIu64 " changed supervisors (%" PRIu64 " calls accepted on them), %" PRIu64
-           " traces and %" PRIu64
-           " of levels read\nanswers 0 to 19:",
-           seed, calls, mutated, mutated_accepted, traces_read, level_traces_read);
+           " traces and %" PRIu64 " of levels read, %" PRIu64 " seconds told, %" PRIu64
+           " numbers of a pending second tried\nanswers 0 to 19:",
+           seed, calls, mutated, mutated_accepted, traces_read, level_traces_read, told, pending_tried);
     for (int i = 0; i < 20; i++) printf(" %" PRIu64, answered[i]);
     printf("\n");
     return 0;

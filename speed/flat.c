@@ -60,7 +60,7 @@ int main(int argc, char **argv)
         send(n);
         refused |= taken(n >= w->ssf && n < w->clear) & 255;
     }
-    if (w->mark) refused |= otn_mark(sup, sizeof sup, record, sizeof record);
+    if (w->mark) refused |= otn_refusal(otn_mark(sup, sizeof sup, record, sizeof record));
     if (refused) return 3;
     send(w->frame);
     if (*argv[5] == '0') return 0;

@@ -283,35 +283,51 @@ uint64_t plain_step_levels(struct plain *p, const uint8_t *o, size_t len, uint8_
     return step(p, o, len, flags, sm, pm, tcm);
 }
 
+uint64_t plain_pending(const struct plain *p, uint32_t record[44])
+{
+    if (p->closed == 0) return 0;
+    record[0] = p->closed;
+    memcpy(record + 1, p->pending, sizeof p->pending);
+    return PLAIN_TOLD;
+}
+
+/* What stood in the second just closed voids the four figures of the one before. */
+static inline void revise(uint32_t four[4], unsigned iae, unsigned biae)
+{
+    if (iae) four[0] = four[2] = 0;
+    if (iae || biae) four[1] = four[3] = 0;
+}
+
 uint64_t plain_mark(struct plain *p, uint32_t record[44])
 {
     if (p->closed == UINT32_MAX) return 4;
+    const uint64_t told = plain_pending(p, record);
     struct plain_layer *s = &p->layer[0];
+    if (told) revise(record + 12, p->iae_stood, p->biae_stood);
     if (p->iae_stood) s->near = s->near_ds = 0;
     if (p->iae_stood || p->biae_stood) s->far = s->far_ds = 0;
     for (int i = 0; i < 6; i++) {
         struct plain_tandem *v = &p->level[i];
+        if (told) revise(record + 20 + 4 * i, v->iae_stood, v->biae_stood);
         if (v->iae_stood) v->layer.near = v->layer.near_ds = 0;
         if (v->iae_stood || v->biae_stood) v->layer.far = v->layer.far_ds = 0;
         v->iae_stood = v->biae_stood = 0;
     }
-    record[0] = ++p->closed;
-    record[1] = p->frames;
-    memcpy(record + 2, p->heads, sizeof p->heads);
+    p->closed++;
+    p->pending[0] = p->frames;
+    memcpy(p->pending + 1, p->heads, sizeof p->heads);
     for (int i = 0; i < 2 + 6; i++) {
         struct plain_layer *l = i < 2 ? &p->layer[i] : &p->level[i - 2].layer;
-        uint32_t *r = record + 12 + 4 * i;
-        if (i >= 2 && !(p->given >> (i - 2) & 1)) {
-            memset(r, 0, 4 * sizeof *r);
-            continue;
+        uint32_t *r = p->pending + 11 + 4 * i;
+        if (i < 2 || p->given >> (i - 2) & 1) { /* otherwise zeros stay */
+            r[0] = l->near, r[1] = l->far, r[2] = l->near_ds, r[3] = l->far_ds;
+            filter(&l->deg, l->near >= l->degthr, l->degm);
         }
-        r[0] = l->near, r[1] = l->far, r[2] = l->near_ds, r[3] = l->far_ds;
-        filter(&l->deg, l->near >= l->degthr, l->degm);
         l->near = l->far = l->near_ds = l->far_ds = 0;
     }
     p->frames = p->iae_stood = p->biae_stood = 0;
     memset(p->heads, 0, sizeof p->heads);
-    return 0;
+    return told;
 }
 
 uint64_t plain_trace(const struct plain *p, uint8_t layer, uint8_t *out, size_t len)

@@ -13,6 +13,7 @@
 #define plain_step PLAIN_NAME(plain_step)
 #define plain_step_levels PLAIN_NAME(plain_step_levels)
 #define plain_mark PLAIN_NAME(plain_mark)
+#define plain_pending PLAIN_NAME(plain_pending)
 #define plain_trace PLAIN_NAME(plain_trace)
 #define plain_level_report PLAIN_NAME(plain_level_report)
 #define plain_level_trace PLAIN_NAME(plain_level_trace)
@@ -65,7 +66,11 @@ struct plain {
     uint8_t iae_stood, biae_stood;
     uint32_t frames, heads[10];
     uint32_t closed;
+    /* the second closed last, where there is one: frames, heads, then four figures of section, path and each level */
+    uint32_t pending[43];
 };
+
+enum { PLAIN_TOLD = 1 << 8 }; /* plain_mark, plain_pending: there is a second to tell, and it is in the record */
 
 /* Each answers the refusal number, 0 where accepted; a step the report above its low byte, and so does plain_level_report. */
 uint64_t plain_fresh(struct plain *p, uint8_t k, uint32_t sm_thr, uint8_t sm_degm, uint32_t pm_thr, uint8_t pm_degm,
@@ -77,6 +82,7 @@ uint64_t plain_step(struct plain *p, const uint8_t *overhead, size_t len, uint8_
 uint64_t plain_step_levels(struct plain *p, const uint8_t *overhead, size_t len, uint8_t flags, uint8_t sm, uint8_t pm,
                            const uint8_t tcm[6]);
 uint64_t plain_mark(struct plain *p, uint32_t record[44]);
+uint64_t plain_pending(const struct plain *p, uint32_t record[44]);
 uint64_t plain_trace(const struct plain *p, uint8_t layer, uint8_t *out, size_t len);
 uint64_t plain_level_report(const struct plain *p, uint8_t level);
 uint64_t plain_level_trace(const struct plain *p, uint8_t level, uint8_t *out, size_t len);

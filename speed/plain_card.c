@@ -1,45 +1,53 @@
-/* The card's calls over plain.c, as a stand-in: the supervisor's bytes are the struct, its numbers held to their ranges. The
- * second's counts have no range but their type: they are only added to, and unsigned. */
+/* The card's calls over plain.c, as a stand-in: the supervisor's bytes are the struct, its numbers held to their ranges. The open
+ * second's counts are at most its frames; the pending one's figures have their ranges one by one, and are the last bytes, as the card's are. */
 #include "otn.h"
 #include "plain.h"
 #include <string.h>
 
-_Static_assert(sizeof(struct plain) <= OTN_SUPERVISOR_BYTES, "the supervisor has room for the struct");
+_Static_assert(sizeof(struct plain) == OTN_SUPERVISOR_BYTES, "the supervisor is the struct");
 
 static int filter_in_range(const struct plain_filter *f, unsigned n) { return f->stands <= 1 && f->run < n; }
 
-static int layer_in_range(const struct plain_layer *l, uint32_t ceiling)
+static int layer_in_range(const struct plain_layer *l, uint32_t ceiling, uint32_t frames)
 {
     const struct plain_trace_state *t = &l->trace;
     return t->gathering <= 1 && t->equal <= 3 && t->has <= 1 && t->differs <= 1 && filter_in_range(&l->bdi, 5) &&
            l->degthr >= 1 && l->degthr <= ceiling && l->degm >= 2 && l->degm <= 10 && l->mode <= 3 && l->dis <= 2 &&
-           l->acts <= 1 && filter_in_range(&l->deg, 10) && l->near_ds <= 1 && l->far_ds <= 1;
+           l->acts <= 1 && filter_in_range(&l->deg, 10) && l->near_ds <= 1 && l->far_ds <= 1 && l->near <= frames && l->far <= frames;
 }
 
-static int level_in_range(const struct plain_tandem *v, uint32_t ceiling)
+static int level_in_range(const struct plain_tandem *v, uint32_t ceiling, uint32_t frames)
 {
-    return layer_in_range(&v->layer, ceiling) && filter_in_range(&v->biae, 3) && v->stat_value <= 7 && v->stat_run <= 3 &&
+    return layer_in_range(&v->layer, ceiling, frames) && filter_in_range(&v->biae, 3) && v->stat_value <= 7 && v->stat_run <= 3 &&
            (v->stat & (v->stat - 1)) == 0 && v->iae_stood <= 1 && v->biae_stood <= 1;
+}
+
+static int pending_in_range(const uint32_t pending[43])
+{
+    for (int i = 0; i < 43; i++)
+        if (pending[i] > (i >= 11 && (i - 11) % 4 >= 2 ? 1 : 400000)) return 0; /* DS; frames and blocks */
+    return 1;
 }
 
 static int in_range(const struct plain *p)
 {
     const uint32_t ceiling = p->n == 62 ? 20420 : p->n == 247 ? 82025 : p->n == 989 ? 329492 : 0;
     for (int i = 0; i < 6; i++)
-        if (!level_in_range(&p->level[i], ceiling)) return 0;
+        if (!level_in_range(&p->level[i], ceiling, p->frames)) return 0;
+    for (int i = 0; i < 10; i++)
+        if (p->heads[i] > p->frames) return 0;
     return ceiling != 0 && p->ceiling == ceiling && p->oof_total <= p->n && p->if_run <= p->n && p->oom_run <= p->n &&
            p->in_frame <= 1 && p->fas_run <= 4 && p->in_multiframe <= 1 && p->mismatches <= 4 && p->previous_known <= 1 &&
            filter_in_range(&p->iae, 5) && filter_in_range(&p->biae, 3) && p->stat_value <= 7 && p->stat_run <= 3 &&
-           p->stat <= 7 && layer_in_range(&p->layer[0], ceiling) && layer_in_range(&p->layer[1], ceiling) &&
-           p->given <= 63 && p->ssf <= 1 && p->iae_stood <= 1 && p->biae_stood <= 1 && p->frames <= 400000;
+           p->stat <= 7 && layer_in_range(&p->layer[0], ceiling, p->frames) && layer_in_range(&p->layer[1], ceiling, p->frames) &&
+           p->given <= 63 && p->ssf <= 1 && p->iae_stood <= 1 && p->biae_stood <= 1 && p->frames <= 400000 &&
+           pending_in_range(p->pending);
 }
 
 static int load(struct plain *p, const uint8_t *sup, size_t len)
 {
     if (len != OTN_SUPERVISOR_BYTES) return 17;
     memcpy(p, sup, sizeof *p);
-    for (size_t i = sizeof *p; i < len; i++)
-        if (sup[i]) return 17;
     return in_range(p) ? 0 : 17;
 }
 
@@ -51,10 +59,7 @@ uint64_t otn_fresh(uint8_t *sup, size_t sup_len, uint8_t k, uint32_t sm_thr, uin
     if (sup_len != OTN_SUPERVISOR_BYTES) return 17;
     const uint64_t answer = plain_fresh(&p, k, sm_thr, sm_degm, pm_thr, pm_degm, sm_mode, pm_mode, sm_dis, pm_dis, sm_names,
                                         sm_names_len, pm_names, pm_names_len);
-    if (answer == 0) {
-        memset(sup, 0, sup_len);
-        memcpy(sup, &p, sizeof p);
-    }
+    if (answer == 0) memcpy(sup, &p, sizeof p);
     return answer;
 }
 
@@ -89,16 +94,32 @@ uint64_t otn_step_levels(uint8_t *sup, size_t sup_len, const uint8_t *overhead, 
     return answer;
 }
 
+/* what the record has room for, where there is a second to tell */
+static void fill(uint64_t told, uint8_t *record, size_t record_len, const uint32_t figures[44])
+{
+    for (size_t i = 0; told && i < 176 && i < record_len; i++) record[i] = (uint8_t)(figures[i / 4] >> 8 * (i % 4));
+}
+
 uint64_t otn_mark(uint8_t *sup, size_t sup_len, uint8_t *record, size_t record_len)
 {
     struct plain p;
     uint32_t figures[44];
     if (load(&p, sup, sup_len)) return 17;
     const uint64_t answer = plain_mark(&p, figures);
-    if (answer) return answer;
-    for (size_t i = 0; i < 176 && i < record_len; i++) record[i] = (uint8_t)(figures[i / 4] >> 8 * (i % 4));
+    if (answer & 255) return answer;
+    fill(answer, record, record_len, figures);
     memcpy(sup, &p, sizeof p);
-    return 0;
+    return answer;
+}
+
+uint64_t otn_pending(const uint8_t *sup, size_t sup_len, uint8_t *record, size_t record_len)
+{
+    struct plain p;
+    uint32_t figures[44];
+    if (load(&p, sup, sup_len)) return 17;
+    const uint64_t answer = plain_pending(&p, figures);
+    fill(answer, record, record_len, figures);
+    return answer;
 }
 
 uint64_t otn_trace(const uint8_t *sup, size_t sup_len, uint8_t layer, uint8_t *out, size_t out_len)

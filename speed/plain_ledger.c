@@ -48,6 +48,17 @@ static size_t have(size_t want)
     return to - from;
 }
 
+/* The line of a second: the twenty figures, then those of the levels that are provisioned. */
+static void line(const struct plain *p, const uint32_t record[44])
+{
+    if (written > sizeof text - 1024) flush();
+    put('S');
+    for (int i = 0; i < 20; i++) number(record[i]);
+    for (int i = 0; i < 24; i++)
+        if (p->given >> i / 4 & 1) number(record[20 + i]);
+    put('\n');
+}
+
 static uint32_t word(const uint8_t *b) { return b[0] | b[1] << 8 | b[2] << 16 | (uint32_t)b[3] << 24; }
 
 int main(void)
@@ -57,6 +68,7 @@ int main(void)
     int provisioned = 0;
     unsigned uses = 0; /* the kind of its frames, 1 or 5 */
     uint64_t marks = 0, frames = 0, offset = 0, refused = 0;
+    uint32_t record[44];
     size_t left;
     while ((left = have(4)) > 0) {
         if (left < 4) {
@@ -88,15 +100,10 @@ int main(void)
             uses = kind;
             frames++;
         } else if (kind == 2) {
-            uint32_t record[44];
-            if ((refused = plain_mark(&p, record))) break;
+            const uint64_t answer = plain_mark(&p, record);
+            if ((refused = answer & 255)) break;
             marks++;
-            if (written > sizeof text - 1024) flush();
-            put('S');
-            for (int i = 0; i < 20; i++) number(record[i]);
-            for (int i = 0; i < 24; i++)
-                if (p.given >> i / 4 & 1) number(record[20 + i]);
-            put('\n');
+            if (answer & PLAIN_TOLD) line(&p, record);
         } else if (kind == 4) {
             if (b[0] < 1 || b[0] > 6 || p.given >> (b[0] - 1) & 1) {
                 refused = 18;
@@ -111,6 +118,7 @@ int main(void)
         from += length + 2;
         offset += length + 2;
     }
+    if (plain_pending(&p, record)) line(&p, record);
     if (written > sizeof text - 1024) flush();
     if (refused) {
         put('R');

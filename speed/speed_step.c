@@ -37,6 +37,7 @@
     uint64_t by##_plain_step(struct plain *, const uint8_t *, size_t, uint8_t, uint8_t, uint8_t);                                \
     uint64_t by##_plain_step_levels(struct plain *, const uint8_t *, size_t, uint8_t, uint8_t, uint8_t, const uint8_t[6]);       \
     uint64_t by##_plain_mark(struct plain *, uint32_t[44]);                                                                      \
+    uint64_t by##_plain_pending(const struct plain *, uint32_t[44]);                                                             \
     uint64_t by##_plain_level_report(const struct plain *, uint8_t);                                                             \
     uint64_t by##_plain_level_trace(const struct plain *, uint8_t, uint8_t *, size_t);
 PLAIN(base)
@@ -48,10 +49,11 @@ __typeof__(otn_level) hand_level;
 __typeof__(otn_step) hand_step;
 __typeof__(otn_step_levels) hand_step_levels;
 __typeof__(otn_mark) hand_mark;
+__typeof__(otn_pending) hand_pending;
 __typeof__(otn_trace) hand_trace;
 __typeof__(otn_level_report) hand_level_report;
 __typeof__(otn_level_trace) hand_level_trace;
-enum { HAND_BYTES = 2160 }; /* what standin/otn.h has for OTN_SUPERVISOR_BYTES; hand_fresh refuses another length */
+enum { HAND_BYTES = sizeof(struct plain) }; /* what standin/otn.h has for OTN_SUPERVISOR_BYTES; hand_fresh refuses another length */
 
 #ifndef BASE
 #define BASE "gcc -O3"
@@ -105,7 +107,7 @@ static double now(void)
             sum = sum * 31 + (step);                                      \
             b += 71;                                                      \
         } else {                                                          \
-            uint32_t r[44];                                               \
+            uint32_t r[44] = {0}; /* the first mark leaves it */          \
             sum += (mark);                                                \
             for (int i = 0; i < 44; i++) sum = sum * 31 + r[i];           \
             b += 4;                                                       \
@@ -180,11 +182,15 @@ static int levels_differ(void)
                 otn_step_levels(s, sizeof s, o, 64, o[64], o[65], o[66], t[0], t[1], t[2], t[3], t[4], t[5]))
                 return 1;
         } else {
-            uint32_t figures[44];
-            uint8_t record[OTN_RECORD_BYTES], ours[64], theirs[64];
-            if (base_plain_mark(&p, figures) || otn_mark(s, sizeof s, record, sizeof record)) return 1;
-            for (int i = 0; i < 44; i++)
-                if (word(record + 4 * i) != figures[i]) return 1;
+            uint8_t ours[64], theirs[64];
+            for (int pending = 0; pending < 2; pending++) { /* what the mark reports, and what is pending after it */
+                uint32_t figures[44] = {0};
+                uint8_t record[OTN_RECORD_BYTES] = {0};
+                const uint64_t answer = pending ? base_plain_pending(&p, figures) : base_plain_mark(&p, figures);
+                if (answer != (pending ? otn_pending(s, sizeof s, record, sizeof record) : otn_mark(s, sizeof s, record, sizeof record))) return 1;
+                for (int i = 0; i < 44; i++)
+                    if (word(record + 4 * i) != figures[i]) return 1;
+            }
             for (uint8_t n = 0; n < 8; n++) {
                 const uint64_t answer = base_plain_level_trace(&p, n, ours, 64);
                 if (otn_level_trace(s, sizeof s, n, theirs, 64) != answer || (answer == 0 && memcmp(ours, theirs, 64))) return 1;
@@ -196,11 +202,11 @@ static int levels_differ(void)
     return 0;
 }
 
-static const char *const names[] = {"fresh", "level", "mark", "trace", "level_report", "level_trace"};
-enum { ONE_FRESH, ONE_LEVEL, ONE_MARK, ONE_TRACE, ONE_LEVEL_REPORT, ONE_LEVEL_TRACE, NAMES };
+static const char *const names[] = {"fresh", "level", "mark", "pending", "trace", "level_report", "level_trace"};
+enum { ONE_FRESH, ONE_LEVEL, ONE_MARK, ONE_PENDING, ONE_TRACE, ONE_LEVEL_REPORT, ONE_LEVEL_TRACE, NAMES };
 
-/* a level is provisioned once only: its call has a fresh supervisor each time */
-#define CALLS(bytes, fresh, level, step_levels, mark, accepted, report, level_accepted)                                  \
+/* a level is provisioned once only: its call has a fresh supervisor each time; otn_pending has a second to tell */
+#define CALLS(bytes, fresh, level, step_levels, mark, pending, accepted, report, level_accepted)                         \
     static uint8_t s[bytes];                                                                                             \
     const uint8_t *b = trace + 4;                                                                                        \
     uint8_t r[176];                                                                                                      \
@@ -209,10 +215,12 @@ enum { ONE_FRESH, ONE_LEVEL, ONE_MARK, ONE_TRACE, ONE_LEVEL_REPORT, ONE_LEVEL_TR
     const uint8_t *o = trace + 87;                                                                                       \
     for (int i = 0; i < 400; i++, o += 71)                                                                               \
         refused |= step_levels(s, sizeof s, o, 64, o[64], o[65], o[66], o[66], o[66], o[66], o[66], o[66], o[66]) & 255; \
+    if (call == ONE_PENDING) refused |= mark(s, sizeof s, r, sizeof r) & 255;                                            \
     for (; times; times--) switch (call) {                                                                               \
         case ONE_FRESH: refused |= FRESH(fresh, s, sizeof s); break;                                                     \
         case ONE_LEVEL: refused |= FRESH(fresh, s, sizeof s) | LEVEL(level, 1, s, sizeof s); break;                      \
-        case ONE_MARK: refused |= mark(s, sizeof s, r, sizeof r); break;                                                 \
+        case ONE_MARK: refused |= mark(s, sizeof s, r, sizeof r) & 255; break;                                           \
+        case ONE_PENDING: refused |= pending(s, sizeof s, r, sizeof r) & 255; break;                                     \
         case ONE_TRACE: refused |= accepted(s, sizeof s, 0, r, 64); break;                                               \
         case ONE_LEVEL_REPORT: refused |= report(s, sizeof s, 1) & 255; break;                                           \
         default: refused |= level_accepted(s, sizeof s, 1, r, 64); break;                                                \
@@ -221,12 +229,14 @@ enum { ONE_FRESH, ONE_LEVEL, ONE_MARK, ONE_TRACE, ONE_LEVEL_REPORT, ONE_LEVEL_TR
 
 static uint64_t calls_card(int call, long times)
 {
-    CALLS(OTN_SUPERVISOR_BYTES, otn_fresh, otn_level, otn_step_levels, otn_mark, otn_trace, otn_level_report, otn_level_trace);
+    CALLS(OTN_SUPERVISOR_BYTES, otn_fresh, otn_level, otn_step_levels, otn_mark, otn_pending, otn_trace, otn_level_report,
+          otn_level_trace);
 }
 
 static uint64_t calls_hand(int call, long times)
 {
-    CALLS(HAND_BYTES, hand_fresh, hand_level, hand_step_levels, hand_mark, hand_trace, hand_level_report, hand_level_trace);
+    CALLS(HAND_BYTES, hand_fresh, hand_level, hand_step_levels, hand_mark, hand_pending, hand_trace, hand_level_report,
+          hand_level_trace);
 }
 
 static void put(const uint8_t *b, size_t n)

@@ -11,9 +11,14 @@
 #define GUARD 16
 #define ALL OTN_SUPERVISOR_BYTES
 
-/* offsets that are written or looked at here: of the line, of what is kept of all levels, and within a layer's or a level's record */
-enum { CLOSED = 28, ALIGNMENT = 32, LOCAL = 36, SECOND = 64, RECORDS = 112, RECORD = 288, FLAGS = 688, GIVEN = 689, LEVELS = 720 };
-enum { DDEG = 7, STATE = 32, GATHERING = 33, DS = 45, NEAR = 56, FAR = 60, ACCEPTED = 64, GATHERED = 128, PREVIOUS = 192, NAMES = 256 };
+/* offsets that are written or looked at here: of the line, of what is kept of all levels, of the pending second, and within a layer's or a
+   level's record */
+enum { CLOSED = 28, ALIGNMENT = 32, LOCAL = 36, SECOND = 64, RECORDS = 112, RECORD = 288, FLAGS = 688, GIVEN = 689, LEVELS = 720, HELD = 2448 };
+enum { DDEG = 7, STATE = 32, GATHERING = 33, DS = 45, STOOD = 47, NEAR = 56, FAR = 60, ACCEPTED = 64, GATHERED = 128, PREVIOUS = 192, NAMES = 256 };
+
+/* otn_mark's and otn_pending's answer where a second is told; of its 44 words the first 12 are number, frames and heads, and HELD has all but the
+   number; then come four for each record */
+enum { TOLD = 256, COUNTS = 12, FOUR = 4 };
 
 /* the records of section, path and levels 1 to 6, and where a frame has their three bytes: trace, BIP-8, status */
 enum { WATCHED = 2 + OTN_LEVELS };
@@ -55,17 +60,25 @@ static uint64_t all_given(uint8_t k) {
 
 static uint64_t report(uint8_t n) { return otn_level_report(sup, ALL, n); }
 
+/* the pending second, in a whole record: 1 where there is one */
+static int pending(uint8_t record[OTN_RECORD_BYTES]) { return otn_pending(sup, ALL, record, OTN_RECORD_BYTES) == TOLD; }
+
+static uint32_t word_in(const uint8_t *bytes, size_t at) {
+    return (uint32_t)bytes[at] | (uint32_t)bytes[at + 1] << 8 | (uint32_t)bytes[at + 2] << 16 | (uint32_t)bytes[at + 3] << 24;
+}
+static uint32_t word_at(size_t at) { return word_in(sup, at); }
+
 static uint8_t before[ALL];
 static int same(size_t from, size_t to) { return memcmp(before + from, sup + from, to - from) == 0; }
 
 /* whether a record is stepped and marked: a layer's, and that of a level that is provisioned */
 static int watched(int i) { return i < 2 || before[GIVEN + i - 2] == 1; }
 
-/* An accepted step leaves provisioning, dDEG, seconds closed and names, and all of a level that is not provisioned; the frame's flags are
-   kept. Of a trace it writes one byte, the frame's; only where that is the last of a cycle, the last whole cycle and the accepted trace may
+/* An accepted step leaves provisioning, dDEG, seconds closed, names and the pending second, and all of a level that is not provisioned; the
+   frame's flags are kept. Of a trace it writes one byte, the frame's; only where that is the last of a cycle, the last whole cycle and the accepted trace may
    change too, to the gathered one. */
 static int step_leaves(uint8_t flags) {
-    int good = same(0, ALIGNMENT) && sup[FLAGS] == flags && same(GIVEN, LEVELS);
+    int good = same(0, ALIGNMENT) && sup[FLAGS] == flags && same(GIVEN, LEVELS) && same(HELD, ALL);
     for (int i = 0; i < WATCHED; i++) {
         const size_t at = record_at(i), byte = at + GATHERED + sup[LOCAL] % 64;
         const int last = sup[LOCAL] % 64 == 63 && before[at + GATHERING] == 1;
@@ -79,13 +92,36 @@ static int step_leaves(uint8_t flags) {
     return good;
 }
 
-/* An accepted mark leaves all but seconds closed, the open second and dDEG, and all of a level that is not provisioned. */
+/* An accepted mark leaves all but seconds closed, the open second, dDEG and the pending second, and all of a level that is not provisioned. */
 static int mark_leaves(void) {
     int good = same(0, CLOSED) && same(ALIGNMENT, SECOND) && same(FLAGS, LEVELS);
     for (int i = 0; i < WATCHED; i++) {
         const size_t at = record_at(i);
         good &= same(at, at + DDEG) && same(at + DDEG + 2, at + DS) && same(at + ACCEPTED, at + RECORD);
         good &= watched(i) || same(at, at + RECORD);
+    }
+    return good;
+}
+
+/* a figure, unless it is voided: by dIAE at both ends, by dBIAE at the far end, as they stood in the second that the mark closes */
+static uint32_t unless(int i, int far, uint32_t figure) {
+    const uint8_t *stood = before + record_at(i) + STOOD;
+    return stood[0] || (far && stood[1]) ? 0 : figure;
+}
+
+/* The second that is closed is pending, voided by itself; the one that was is reported, voided by it too. */
+static int mark_tells(uint64_t answer, const uint8_t *record, size_t len) {
+    const uint32_t closed = word_in(before, CLOSED);
+    const int whole = closed > 0 && len == OTN_RECORD_BYTES;
+    int good = answer == (closed > 0 ? TOLD : 0) && word_at(CLOSED) == closed + 1 && memcmp(sup + HELD, before + SECOND, 4 * (COUNTS - 1)) == 0;
+    if (whole) good &= otn_figure(record, OTN_SECOND) == closed && memcmp(record + 4, before + HELD, 4 * (COUNTS - 1)) == 0;
+    for (int i = 0; i < WATCHED; i++) {
+        const size_t at = record_at(i), held = HELD + 4 * (COUNTS - 1 + FOUR * (size_t)i);
+        const uint32_t open[FOUR] = {word_in(before, at + NEAR), word_in(before, at + FAR), before[at + DS], before[at + DS + 1]};
+        for (int j = 0; j < FOUR && watched(i); j++) {
+            good &= word_at(held + 4 * (size_t)j) == unless(i, j & 1, open[j]);
+            if (whole) good &= otn_figure(record, (unsigned)(COUNTS + FOUR * i + j)) == unless(i, j & 1, word_in(before, held + 4 * (size_t)j));
+        }
     }
     return good;
 }
@@ -108,14 +144,16 @@ static uint64_t mark(uint8_t *record, size_t len) {
     memcpy(before, sup, ALL);
     uint64_t answer = otn_mark(sup, ALL, record, len);
     check(otn_refusal(answer) ? same(0, ALL) : mark_leaves(), "mark, the bytes that it leaves");
+    check(otn_refusal(answer) || mark_tells(answer, record, len), "mark, what it reports and holds");
     return answer;
 }
+
+/* a mark, and the record of the second that it closes: it is pending then */
+static int closed(uint8_t record[OTN_RECORD_BYTES]) { return otn_refusal(mark(NULL, 0)) == 0 && pending(record); }
 
 static void put(size_t at, unsigned bytes, uint32_t x) {
     for (unsigned i = 0; i < bytes; i++) sup[at + i] = (uint8_t)(x >> 8 * i);
 }
-
-static uint32_t word_at(size_t at) { return (uint32_t)sup[at] | (uint32_t)sup[at + 1] << 8 | (uint32_t)sup[at + 2] << 16 | (uint32_t)sup[at + 3] << 24; }
 
 /* a refusal: its number and nothing else, and no byte changed */
 #define REFUSES(call, number, what)                                                                                                  \
@@ -211,8 +249,9 @@ static void refusals_of_level(void) {
     check(plain(1) == 0 && memcmp(sup, fresh_bytes, ALL) == 0, "fresh, the same bytes each time");
     /* a fresh level: DEGThr 1, DEGM 2, and zeros */
     int blank = 1;
-    for (size_t at = FLAGS; at < ALL; at++) blank &= sup[at] == (at < LEVELS ? 0 : (at - LEVELS) % RECORD == 0 ? 1 : (at - LEVELS) % RECORD == 4 ? 2 : 0);
-    check(blank, "fresh, the bytes of levels");
+    for (size_t at = FLAGS; at < HELD; at++) blank &= sup[at] == (at < LEVELS ? 0 : (at - LEVELS) % RECORD == 0 ? 1 : (at - LEVELS) % RECORD == 4 ? 2 : 0);
+    for (size_t at = HELD; at < ALL; at++) blank &= sup[at] == 0;
+    check(blank, "fresh, the bytes of levels and of the pending second");
 }
 
 static void refusals_of_step_levels(void) {
@@ -271,35 +310,97 @@ static void refusals_of_step(void) {
     REFUSES(step(3, 8, 8), 4, "step, the one after it");
 }
 
+/* a frame under TSF-P that no level but the second and the sixth is there to see, and what its second shows */
+static uint64_t one_failed_frame(void) { return plain(1) | given(2) | given(6) | otn_refusal(step(1, 3, 0)); }
+static int shows_it(const uint8_t *record) {
+    int good = otn_figure(record, OTN_FRAMES) == 1 && otn_figure(record, OTN_UNDER + OTN_HEAD_TSF_P) == 1;
+    good &= otn_figure(record, OTN_SECTION_NEAR_DS) == 1 && otn_figure(record, OTN_PATH_NEAR_DS) == 1;
+    for (unsigned n = 1; n <= OTN_LEVELS; n++)
+        for (unsigned i = 0; i < FOUR; i++) good &= otn_level_figure(record, n, i) == ((n == 2 || n == 6) && i == OTN_LEVEL_NEAR_DS);
+    return good;
+}
+
 static void refusals_of_mark(void) {
     enum { WHOLE = OTN_RECORD_BYTES, ROOM = WHOLE + 20 };
-    uint8_t record[ROOM], kept[ROOM];
+    uint8_t record[ROOM], kept[ROOM], whole[WHOLE];
     memset(record, 0x5a, sizeof record);
     memcpy(kept, record, sizeof record);
     check(plain(2) == 0, "fresh");
     REFUSES(otn_mark(sup, ALL - 1, record, WHOLE), 17, "mark, a byte less");
     REFUSES(otn_mark(sup, ALL + 1, record, WHOLE), 17, "mark, a byte more");
+    REFUSES(otn_mark(sup, HELD, record, WHOLE), 17, "mark, no room for the pending second");
     REFUSES(otn_mark(sup, 0, record, WHOLE), 17, "mark, no bytes");
     REFUSES(otn_mark(NULL, 0, NULL, 0), 17, "mark, NULL");
     put(CLOSED, 4, 0xffffffff);
     REFUSES(mark(record, WHOLE), 4, "mark, all seconds closed");
     REFUSES(mark(NULL, 0), 4, "mark, all seconds closed and no record");
     check(memcmp(record, kept, sizeof record) == 0, "mark, refused: the record as it was");
-    put(CLOSED, 4, 0xfffffffe);
-    check(mark(record, WHOLE) == 0 && otn_figure(record, OTN_SECOND) == 0xffffffff, "mark, the last second");
-    /* a frame under TSF-P that no level but the second and the sixth is there to see */
-    uint8_t whole[WHOLE];
+    /* the first mark has nothing to report; the second reports the frame's second, in a record of any length */
     for (int turn = -1; turn <= ROOM; turn++) {
         const size_t n = turn < 0 ? WHOLE : (size_t)turn, m = n < WHOLE ? n : WHOLE;
         memcpy(record, kept, sizeof record);
-        check(plain(1) == 0 && given(2) == 0 && given(6) == 0 && otn_refusal(step(1, 3, 0)) == 0, "a frame");
-        check(mark(n ? record : NULL, n) == 0, "mark, a record of any length");
+        check(one_failed_frame() == 0 && mark(n ? record : NULL, n) == 0, "mark, the first one");
+        check(memcmp(record, kept, sizeof record) == 0, "mark, the first one: the record as it was");
+        const uint64_t answer = mark(n ? record : NULL, n);
+        check(answer == TOLD && otn_reported(answer) && !otn_refusal(answer), "mark, a record of any length");
         if (turn < 0) memcpy(whole, record, sizeof whole);
         check(memcmp(record, whole, m) == 0 && memcmp(record + m, kept + m, ROOM - m) == 0, "mark, what there is room for");
     }
-    for (unsigned n = 1; n <= OTN_LEVELS; n++)
-        for (unsigned i = 0; i < 4; i++)
-            check(otn_level_figure(whole, n, i) == ((n == 2 || n == 6) && i == OTN_LEVEL_NEAR_DS), "mark, the levels' figures");
+    check(otn_figure(whole, OTN_SECOND) == 1 && shows_it(whole), "mark, the figures");
+    /* the last marks: each reports the one before, and the one that is refused leaves the last second pending */
+    check(one_failed_frame() == 0 && mark(record, WHOLE) == 0, "mark, a second of one frame");
+    put(CLOSED, 4, 0xfffffffd);
+    check(otn_refusal(step(1, 3, 0)) == 0 && mark(record, WHOLE) == TOLD && otn_figure(record, OTN_SECOND) == 0xfffffffd && shows_it(record), "mark, the last but two");
+    check(otn_refusal(step(1, 3, 0)) == 0 && mark(record, WHOLE) == TOLD && otn_figure(record, OTN_SECOND) == 0xfffffffe && shows_it(record), "mark, the last but one");
+    memcpy(record, kept, sizeof record);
+    for (int i = 0; i < 3; i++) {
+        REFUSES(mark(record, WHOLE), 4, "mark, all seconds closed and one pending");
+        check(memcmp(record, kept, sizeof record) == 0, "mark, refused with one pending: the record as it was");
+        REFUSES(otn_pending(sup, ALL, whole, WHOLE), TOLD, "mark, refused: the last second stays");
+        check(otn_figure(whole, OTN_SECOND) == 0xffffffff && shows_it(whole), "mark, refused: its figures");
+        check(otn_refusal(step(1, 3, 0)) == 0, "a frame after the last mark");
+    }
+}
+
+/* the pending second, read: refusals, none and one, and that nothing changes */
+static void refusals_of_pending(void) {
+    enum { WHOLE = OTN_RECORD_BYTES, ROOM = WHOLE + 20 };
+    uint8_t record[ROOM], kept[ROOM], whole[WHOLE];
+    memset(record, 0x5a, sizeof record);
+    memcpy(kept, record, sizeof record);
+    check(one_failed_frame() == 0, "a frame");
+    for (int marked = 0; marked < 2; marked++) {
+        REFUSES(otn_pending(sup, ALL - 1, record, WHOLE), 17, "pending, a byte less");
+        REFUSES(otn_pending(sup, ALL + 1, record, WHOLE), 17, "pending, a byte more");
+        REFUSES(otn_pending(sup, HELD, record, WHOLE), 17, "pending, no room for it");
+        REFUSES(otn_pending(sup, 0, record, WHOLE), 17, "pending, no bytes");
+        REFUSES(otn_pending(NULL, 0, NULL, 0), 17, "pending, NULL");
+        if (!marked) {
+            for (size_t n = 0; n <= ROOM; n++) REFUSES(otn_pending(sup, ALL, n ? record : NULL, n), 0, "pending, none");
+            check(mark(record, sizeof record) == 0, "the first mark");
+        }
+        check(memcmp(record, kept, sizeof record) == 0, "pending, refused or none: the record as it was");
+    }
+    REFUSES(otn_pending(sup, ALL, whole, WHOLE), TOLD, "pending, one");
+    check(otn_figure(whole, OTN_SECOND) == 1 && shows_it(whole), "pending, its figures");
+    for (size_t n = 0; n <= ROOM; n++) {
+        const size_t m = n < WHOLE ? n : WHOLE;
+        memcpy(record, kept, sizeof record);
+        REFUSES(otn_pending(sup, ALL, n ? record : NULL, n), TOLD, "pending, a record of any length");
+        check(memcmp(record, whole, m) == 0 && memcmp(record + m, kept + m, ROOM - m) == 0, "pending, what there is room for");
+    }
+    /* no frame changes it; a mark reports it as it was read, and has the next one pending */
+    for (int i = 0; i < 5; i++) check(otn_refusal(step(2, 0, 0)) == 0 && pending(record) && memcmp(record, whole, WHOLE) == 0, "pending, over frames");
+    check(mark(record, WHOLE) == TOLD && memcmp(record, whole, WHOLE) == 0, "pending, then reported");
+    check(pending(record) && otn_figure(record, OTN_SECOND) == 2 && otn_figure(record, OTN_FRAMES) == 5, "pending, the next one");
+    /* it is there where a second is closed, whatever else the bytes hold */
+    put(CLOSED, 4, 0);
+    memcpy(record, kept, sizeof record);
+    REFUSES(otn_pending(sup, ALL, record, WHOLE), 0, "pending, no second closed");
+    check(memcmp(record, kept, sizeof record) == 0, "pending, no second closed: the record as it was");
+    put(CLOSED, 4, 0xffffffff);
+    REFUSES(otn_pending(sup, ALL, record, WHOLE), TOLD, "pending, all seconds closed");
+    check(otn_figure(record, OTN_SECOND) == 0xffffffff && otn_figure(record, OTN_FRAMES) == 5, "pending, all seconds closed: its figures");
 }
 
 /* frames in alignment whose section and path send a trace and a status byte each */
@@ -456,6 +557,7 @@ static void range(int i, int levels) {
         put(at, bytes, end ? greatest : least);
         check(otn_trace(sup, ALL, 2, out, 64) == 11, "in range");
         check(level(9, 0, 0, 9, 9, 0) == 6 && report(9) == 18 && otn_level_trace(sup, ALL, 1, out, 63) == 12, "in range, the calls of a level");
+        check(otn_pending(sup, ALL, record, sizeof record) == (word_at(CLOSED) ? TOLD : 0), "in range, the pending second");
         check(otn_refusal(step(0, 0, 0)) % 4 == 0, "in range, stepped");
         check(otn_refusal(step_levels(0, 1, 1, t)) % 4 == 0, "in range, stepped with levels");
         check(otn_refusal(mark(record, sizeof record)) % 4 == 0, "in range, marked");
@@ -467,6 +569,7 @@ static void range(int i, int levels) {
         REFUSES(step(9, 9, 9), 17, "above its range, step");
         REFUSES(step_levels(9, 9, 9, over), 17, "above its range, step_levels");
         REFUSES(mark(record, sizeof record), 17, "above its range, mark");
+        REFUSES(otn_pending(sup, ALL, record, sizeof record), 17, "above its range, pending");
         REFUSES(otn_trace(sup, ALL, 9, out, 1), 17, "above its range, trace");
         REFUSES(level(9, 0, 0, 9, 9, 0), 17, "above its range, level");
         REFUSES(report(9), 17, "above its range, level_report");
@@ -483,6 +586,7 @@ static void range(int i, int levels) {
         put(at, bytes, least - 1);
         REFUSES(step(9, 9, 9), 17, "below its range");
         REFUSES(report(1), 17, "below its range, level_report");
+        REFUSES(otn_pending(sup, ALL, record, sizeof record), 17, "below its range, pending");
     }
 }
 
@@ -514,6 +618,9 @@ static void ranges(void) {
             REFUSES(otn_level_trace(sup, ALL, n, out, 64) % 13, 0, "any state in range, a level's trace");
             check(sup[GIVEN + n - 1] || report(n) == 0, "any state in range, a level that is not provisioned");
         }
+        if (turn % 50 == 0) put(CLOSED, 4, 0);
+        REFUSES(otn_pending(sup, ALL, record, sizeof record), word_at(CLOSED) ? TOLD : 0, "any state in range, its pending second");
+        if (word_at(CLOSED)) check(memcmp(record, sup + CLOSED, 4) == 0 && memcmp(record + 4, sup + HELD, 4 * (COUNTS + FOUR * 2 - 1)) == 0, "any state in range, its words");
         check(otn_refusal(step((uint8_t)(turn & 3), (uint8_t)(turn % 9), 0)) % 4 == 0, "any state in range, stepped");
         check(otn_refusal(step_levels((uint8_t)(turn & 3), (uint8_t)(turn % 9), 0, t)) % 4 == 0, "any state in range, stepped with levels");
         check(otn_refusal(mark(record, sizeof record)) % 4 == 0, "any state in range, marked");
@@ -532,7 +639,7 @@ static void frames(void) {
         check(OTN_SECTION_ATSF(r) && OTN_SECTION_ABDI(r) && OTN_PATH_ATSF(r) && OTN_PATH_ABDI(r) && !OTN_CLOF(r) && !OTN_IF(r), "TSF-P, actions");
     }
     static const uint32_t listing[20] = {1, 2, 0, 2, 0, 0, 0, 0, 0, 0, 0, 0, 0, 0, 1, 0, 0, 0, 1, 0};
-    check(mark(record, sizeof record) == 0, "mark");
+    check(closed(record), "mark");
     for (unsigned i = 0; i < 20; i++) check(otn_figure(record, i) == listing[i], "the listing's figures");
 
     /* (a), (b): 61 frames of zeros, then the 62nd */
@@ -576,7 +683,7 @@ static void frames(void) {
         for (int i = 0; i < 4; i++) aligned(0, 0, 0);
         r = step(0, 1, 1);
         check(!OTN_SECTION_DDEG(r) && !OTN_PATH_DDEG(r), "no dDEG yet");
-        check(mark(record, sizeof record) == 0 && otn_figure(record, OTN_SECTION_NEAR) == 1 && otn_figure(record, OTN_PATH_NEAR) == 1, "one near block");
+        check(closed(record) && otn_figure(record, OTN_SECTION_NEAR) == 1 && otn_figure(record, OTN_PATH_NEAR) == 1, "one near block");
     }
     r = aligned(0, 0, 0);
     check(OTN_SECTION_DDEG(r) && OTN_SECTION_ATSD(r) && OTN_SECTION_CDEG(r) && OTN_PATH_DDEG(r) && OTN_PATH_ATSD(r) && OTN_PATH_CDEG(r), "dDEG");
@@ -627,10 +734,10 @@ static uint64_t counted(uint8_t flags, uint8_t sm, uint8_t pm, const uint8_t t[O
     return step_levels(flags, sm, pm, t);
 }
 
-/* the figures of section, path and levels in the record of the second that a mark closes; the rest of what is expected is 0 */
+/* the figures of section, path and levels in the second that a mark closes, with its own discard; the rest of what is expected is 0 */
 static void closes(const uint32_t expected[44], const char *what) {
     uint8_t record[OTN_RECORD_BYTES];
-    int good = mark(record, sizeof record) == 0;
+    int good = closed(record);
     for (unsigned i = 0; i < 44; i++) good &= otn_figure(record, i) == expected[i];
     check(good, what);
 }
@@ -795,7 +902,7 @@ static void levels(void) {
             check(word_at(record_at(1 + m) + NEAR) == (m == n ? 194 : 0) && word_at(record_at(1 + m) + FAR) == (m == n ? 194 : 0), "a level's own blocks");
             check(otn_level_trace(sup, ALL, m, out, 64) == 0 && out[0] == (m == n ? 10 * n : 9) && out[63] == out[0], "a level's own trace");
         }
-        check(mark(record, sizeof record) == 0 && otn_level_figure(record, n, OTN_LEVEL_NEAR) == 0, "a level's own second");
+        check(closed(record) && otn_level_figure(record, n, OTN_LEVEL_NEAR) == 0, "a level's own second");
         /* out of multiframe the cycle and the run are dropped, and the trace stays accepted */
         for (int i = 0; i < 5; i++) mfas = 0, r = counted(0, 0, 0, none);
         check(!OTN_IM(r) && otn_level_trace(sup, ALL, n, out, 64) == 0 && sup[record_at(1 + n) + GATHERING] + sup[record_at(1 + n) + GATHERING + 1] == 0, "out of multiframe");
@@ -809,7 +916,7 @@ static void levels(void) {
     for (int second = 1; second <= 4; second++) {
         uint8_t record[OTN_RECORD_BYTES];
         for (int i = 0; i < 3; i++) counted(0, 0, 0, i < 2 && second < 4 ? ones : none);
-        check(mark(record, sizeof record) == 0 && otn_level_figure(record, 1, OTN_LEVEL_NEAR) == (second < 4 ? 2 : 0), "blocks of a level");
+        check(closed(record) && otn_level_figure(record, 1, OTN_LEVEL_NEAR) == (second < 4 ? 2 : 0), "blocks of a level");
         check(stands(TSDEG, second, 2, 4, 1) && stands(ATSD, second, 2, 4, 1) && stands(CDEG, second, 2, 4, 1), "dDEG after two seconds");
         check(report(2) == 1 << 8 && stands(TSDEG, second, 3, 4, 3), "dDEG by the level's own provisioning");
     }
@@ -838,10 +945,94 @@ static void levels(void) {
         r = step_levels(flags, (uint8_t)(i % 9), (uint8_t)(i % 5), t);
         check(otn_step(other, ALL, overhead, 64, flags, (uint8_t)(i % 9), (uint8_t)(i % 5)) == r, "levels are silent, the report");
         if (i % 100 == 99) {
-            check(mark(record, sizeof record) == 0 && otn_mark(other, ALL, alone, sizeof alone) == 0 && memcmp(record, alone, 80) == 0, "levels are silent, the record");
-            for (int j = 80; j < OTN_RECORD_BYTES; j++) check(alone[j] == 0, "no level, no figures");
+            const uint64_t told = i > 100 ? TOLD : 0;
+            check(mark(record, sizeof record) == told && otn_mark(other, ALL, alone, sizeof alone) == told && (!told || memcmp(record, alone, 80) == 0), "levels are silent, the record");
+            for (int j = 80; j < OTN_RECORD_BYTES; j++) check(!told || alone[j] == 0, "no level, no figures");
         }
-        check(memcmp(sup, other, GIVEN) == 0, "levels are silent, the bytes");
+        check(memcmp(sup, other, GIVEN) == 0 && memcmp(sup + HELD, other + HELD, 76) == 0, "levels are silent, the bytes");
+    }
+    memset(overhead, 0, sizeof overhead);
+}
+
+/* Voiding by neighbours, in the section and in each level. One of them sends what a word of letters says, a letter for a frame: p plain, d with
+   BDI, i with IAE (a level's STAT 010), b with BEI 1011, t under TSF-P; a bar is a mark. All else is plain: BEI 1 and a count of 1 everywhere.
+   The four of each second as it is told: by the mark after the next bar, the last one by otn_pending, before and after the letters behind it. */
+static const struct {
+    const char *frames;
+    uint32_t told[4][FOUR];
+} voided[] = {
+    {"pppppppppp|iiiiippppp|pppppppppp|", {{0}, {0}, {10, 10}}},
+    {"pppppppppp|iiiii", {{10, 10}}},
+    {"pppppppppp||iiiii|", {{10, 10}, {0}, {0}}},
+    {"pppppppppp|bbbppppppp|", {{10}, {10}}},
+    {"pppppppppp|bbb", {{10, 10}}},
+    {"pppppppppp|iiiiiiiiii|pppppppppp|pppppppppp|", {{0}, {0}, {0}, {10, 10}}},
+    {"tddddddddd|pppppppppp|pp", {{9, 9, 1, 1}, {10, 10, 0, 1}}},
+    {"tddddddddd|pppppiiiii|", {{0}, {0}}},
+    {"tddddddddd|pppppppbbb|", {{9, 0, 1, 0}, {10}}},
+    {"pppppiiiii|tddddddddd|", {{0}, {9, 9, 1, 1}}},
+    {"pppppppbbb|tddddddddd|pppppppppp|", {{10}, {9, 9, 1, 1}, {10, 10, 0, 1}}},
+    {"bbbiiiiiii|pppppppppp|", {{0}, {0}}},
+    {"pppppppppp|pppppppppp|pppppppppp|iiiiiiiiii|", {{10, 10}, {10, 10}, {0}, {0}}},
+    {"pppppppppp|", {{10, 10}}},
+};
+
+/* what is told of a second in which the others send: all frames but those under TSF-P are counted, and these make near DS */
+static int told(const uint8_t *record, unsigned second, const char *frames, int whose, const uint32_t own[FOUR]) {
+    const char *end = frames;
+    uint32_t failed = 0;
+    for (; *end != '|'; end++) failed += *end == 't';
+    const uint32_t all = (uint32_t)(end - frames), other[FOUR] = {all - failed, all - failed, failed > 0, 0};
+    int good = otn_figure(record, OTN_SECOND) == second && otn_figure(record, OTN_FRAMES) == all;
+    good &= otn_figure(record, OTN_UNDER) == all - failed && otn_figure(record, OTN_UNDER + OTN_HEAD_TSF_P) == failed;
+    for (int i = 0; i < WATCHED; i++)
+        for (int j = 0; j < FOUR; j++) good &= otn_figure(record, (unsigned)(COUNTS + FOUR * i + j)) == (i == whose ? own : other)[j];
+    return good;
+}
+
+static void neighbours(void) {
+    uint8_t record[OTN_RECORD_BYTES];
+    memset(overhead, 0, sizeof overhead);
+    for (int whose = 0; whose < WATCHED; whose++)
+        for (size_t c = 0; c < sizeof voided / sizeof *voided && whose != 1; c++) {
+            const char *second[5] = {voided[c].frames};
+            unsigned marks = 0;
+            check(all_given(1) == 0, "fresh, all levels");
+            mfas = 0;
+            for (const char *f = voided[c].frames; *f; f++) {
+                if (*f == '|') {
+                    const uint64_t answer = mark(record, sizeof record);
+                    check(answer == (marks ? TOLD : 0), "neighbours, whether a second is reported");
+                    check(!marks || told(record, marks, second[marks - 1], whose, voided[c].told[marks - 1]), "neighbours, the second reported");
+                    second[++marks] = f + 1;
+                    continue;
+                }
+                const uint8_t plain_of_it = whose == 0 ? 0x10 : 0x11;
+                const uint8_t status = *f == 'd' ? plain_of_it | 8 : *f == 'i' ? (whose == 0 ? 0x14 : 0x12) : *f == 'b' ? plain_of_it | 0xb0 : plain_of_it;
+                send(0, whose == 0 ? status : 0x10, 0x11);
+                tandem(0, 0, 0x11);
+                if (whose) tandem((unsigned)whose - 1, 0, status);
+                check(otn_refusal(step_levels(*f == 't', 1, 1, ones)) == 0, "neighbours, a frame");
+            }
+            check(pending(record) && told(record, marks, second[marks - 1], whose, voided[c].told[marks - 1]), "neighbours, the pending second");
+        }
+
+    /* dDEG goes by the second just closed with its own discard: raised by two bad seconds, and not taken back where the later one is voided */
+    for (int whose = 0; whose < WATCHED; whose++) {
+        const int has_iae = whose != 1;
+        check(all_given(1) == 0, "fresh, all levels");
+        mfas = 0;
+        for (unsigned n = 1; n <= 5; n++) {
+            for (int i = 0; i < 10; i++) {
+                send(0, whose == 0 && n > 2 ? 0x14 : 0x10, 0x11);
+                tandem(0, 0, 0x11);
+                if (whose > 1 && n > 2) tandem((unsigned)whose - 1, 0, 0x12);
+                check(otn_refusal(step_levels(0, 1, 1, ones)) == 0, "dDEG, a frame");
+            }
+            check(mark(record, sizeof record) == (n > 1 ? TOLD : 0), "dDEG, a mark");
+            if (n > 1) check(otn_figure(record, (unsigned)(COUNTS + FOUR * whose)) == (n < 3 || !has_iae ? 10 : 0), "dDEG, the second reported");
+            for (int i = 0; i < WATCHED; i++) check(sup[record_at(i) + DDEG] == (n >= 2 && (n < 4 || i != whose || !has_iae)), "dDEG, by the second just closed");
+        }
     }
     memset(overhead, 0, sizeof overhead);
 }
@@ -871,12 +1062,16 @@ static void fences(void) {
     }
     check(otn_trace(s, ALL, 0, t, 64) == 0 && otn_trace(s, ALL, 1, t, 64) == 0, "fenced, trace");
     for (uint8_t l = 1; l <= OTN_LEVELS; l++) check(otn_level_trace(s, ALL, l, t, 64) == 0 && otn_refusal(otn_level_report(s, ALL, l)) == 0, "fenced, a level's readings");
-    for (size_t m = 0; m <= OTN_RECORD_BYTES; m++) check(otn_mark(s, ALL, r + OTN_RECORD_BYTES - m, m) == 0, "fenced, mark");
+    for (size_t m = 0; m <= OTN_RECORD_BYTES; m++) {
+        check(otn_mark(s, ALL, r + OTN_RECORD_BYTES - m, m) == (m ? TOLD : 0), "fenced, mark");
+        check(otn_pending(s, ALL, r + OTN_RECORD_BYTES - m, m) == TOLD, "fenced, pending");
+    }
     for (size_t m = 0; m < ALL; m++) {
         uint8_t *less = s + ALL - m;
         check(otn_step(less, m, o, 64, 0, 0, 0) == 17 && otn_mark(less, m, r, OTN_RECORD_BYTES) == 17, "fenced, a short supervisor");
         check(otn_step_levels(less, m, o, 64, 0, 0, 0, 0, 0, 0, 0, 0, 0) == 17 && otn_level(less, m, 1, 1, 2, 0, 0, n, 32) == 17, "fenced, its levels");
         check(otn_trace(less, m, 0, t, 64) == 17 && otn_level_trace(less, m, 1, t, 64) == 17 && otn_level_report(less, m, 1) == 17, "fenced, a short supervisor's readings");
+        check(otn_pending(less, m, r, OTN_RECORD_BYTES) == 17, "fenced, a short supervisor's pending second");
     }
     for (size_t m = 0; m < 64; m++) {
         check(otn_step(s, ALL, o + 64 - m, m, 0, 0, 0) == 1 && otn_trace(s, ALL, 0, t + 64 - m, m) == 12, "fenced, short buffers");
@@ -887,12 +1082,13 @@ static void fences(void) {
 
 /* What a call takes of the stack: it runs on a painted one, and the paint that is gone is counted from the caller's frame. Each call
    is held to its own bound, and all to the header's. libcard.a is for x86-64, and so is the change of stacks. */
-enum { FRESH, LEVEL, STEP, STEP_LEVELS, MARK, TRACE, LEVEL_REPORT, LEVEL_TRACE, CALLS };
+enum { FRESH, LEVEL, STEP, STEP_LEVELS, MARK, PENDING, TRACE, LEVEL_REPORT, LEVEL_TRACE, CALLS };
 static struct {
     const char *name;
     long bound, deepest;
-} of_call[CALLS] = {{"otn_fresh", 256, 0}, {"otn_level", 384, 0}, {"otn_step", 640, 0}, {"otn_step_levels", 704, 0},
-                    {"otn_mark", 768, 0}, {"otn_trace", 384, 0}, {"otn_level_report", 320, 0}, {"otn_level_trace", 448, 0}};
+} of_call[CALLS] = {{"otn_fresh", 256, 0}, {"otn_level", 512, 0}, {"otn_step", 704, 0}, {"otn_step_levels", 768, 0},
+                    {"otn_mark", 960, 0}, {"otn_pending", 768, 0}, {"otn_trace", 448, 0}, {"otn_level_report", 384, 0},
+                    {"otn_level_trace", 512, 0}};
 
 static uint8_t stack[1 << 16] __attribute__((aligned(16)));
 static int which;
@@ -907,6 +1103,7 @@ static void caller(void) {
     case STEP: otn_step(sup, ALL, overhead, 64, flags, 1, 1); break;
     case STEP_LEVELS: otn_step_levels(sup, ALL, overhead, 64, flags, 1, 1, 1, 1, 1, 1, 1, 1); break;
     case MARK: otn_mark(sup, ALL, out_bytes, sizeof out_bytes); break;
+    case PENDING: otn_pending(sup, ALL, out_bytes, sizeof out_bytes); break;
     case TRACE: otn_trace(sup, ALL, layer, out_bytes, 64); break;
     case LEVEL_REPORT: otn_level_report(sup, ALL, one_level); break;
     default: otn_level_trace(sup, ALL, one_level, out_bytes, 64); break;
@@ -935,6 +1132,7 @@ static void measure(int call) {
 /* each call in many states, with no level, two of them and all: while the line is found, in and at the end of each cycle, with a trace
    accepted, then failed, then refused */
 static void readings(void) {
+    measure(PENDING);
     for (layer = 0; layer < 2; layer++) measure(TRACE);
     for (one_level = 0; one_level <= OTN_LEVELS + 1; one_level++) {
         measure(LEVEL_REPORT);
@@ -957,12 +1155,14 @@ static void depths(void) {
             }
             readings();
             measure(MARK);
+            measure(PENDING);
             for (flags = 1; flags < 5; flags++) measure(call);
             flags = 0;
             memset(overhead, 0, sizeof overhead);
             for (int i = 0; i < 70; i++) measure(call);
             measure(LEVEL);
             measure(MARK);
+            measure(PENDING);
             measure(FRESH);
         }
     for (int i = 0; i < CALLS; i++) {
@@ -981,6 +1181,7 @@ int main(int words, char **word) {
     refusals_of_step();
     refusals_of_step_levels();
     refusals_of_mark();
+    refusals_of_pending();
     refusals_of_trace();
     refusals_of_readings();
     rows();
@@ -988,6 +1189,7 @@ int main(int words, char **word) {
     frames();
     compared();
     levels();
+    neighbours();
     fences();
     if (words == 1) depths();
     for (int i = 0; i < GUARD; i++) check(room[i] == 0xc3 && room[GUARD + OTN_SUPERVISOR_BYTES + i] == 0xc3, "no byte around the supervisor");

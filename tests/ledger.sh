@@ -13,8 +13,13 @@ ends() {
 # the worked example and nothing at all
 gives "$(line 'S 1 2 0 2 0 0 0 0 0 0 0 0 0 0 1 0 0 0 1 0' 'E 1 2')" P 'Z:flags=1*2' M
 gives 'E 0 0'
-# the open second is not printed
+# the open second is not printed; the pending one is, at the end, once, before R and E
 gives 'E 0 3' P 'Z*3'
+gives "$(line 'S 1 3 3 0 0 0 0 0 0 0 0 0 0 0 0 0 0 0 0 0' 'E 1 5')" P 'Z*3' M 'Z*2'
+gives "$(line 'S 1 1 1 0 0 0 0 0 0 0 0 0 0 0 0 0 0 0 0 0' 'R 14 158' 'E 1 1')" P Z M B:020002
+gives "$(line 'S 1 1 1 0 0 0 0 0 0 0 0 0 0 0 0 0 0 0 0 0' 'R 14 158' 'E 1 1')" P Z M M -1
+gives "$(line 'S 1 1 1 0 0 0 0 0 0 0 0 0 0 0 0 0 0 0 0 0' 'R 2 229' 'E 1 2')" P Z M Z Z:flags=4 M
+gives "$(line 'S 1 1 1 0 0 0 0 0 0 0 0 0 0 0 0 0 0 0 0 0' 'S 2 0 0 0 0 0 0 0 0 0 0 0 0 0 0 0 0 0 0 0' 'R 16 162' 'E 2 1')" P Z M M P M
 gives "$(line 'S 1 0 0 0 0 0 0 0 0 0 0 0 0 0 0 0 0 0 0 0' 'S 2 0 0 0 0 0 0 0 0 0 0 0 0 0 0 0 0 0 0 0' 'E 2 0')" P M M
 
 # each refusal as the first record, after others, and across the border of the buffer: before 83 + 4 * 1003 = 4095, and 4083
@@ -138,6 +143,39 @@ said "$(printed P L:level=5 'G5:st5=0x11,t5=1*9' M)" "$(printed P L:level=5 'G5:
 gives 'E 0 60' P L 'Z5*60'
 ends "$(line 'R 3 4087' 'E 0 52')" P 'Z5*52' Z5:t1=9
 
+# dIAE voids the four values of its second and of the one before, dBIAE the two of the far end: in the section, and in a level
+void='0 0 0 0'
+s() { # NUMBER FRAMES FOUR: the line of a second whose frames are clear, with the four values of $whose
+    case $whose in
+    section) line "S $1 $2 $2 0 0 0 0 0 0 0 0 0 $3 $void" ;;
+    level) line "S $1 $2 $2 0 0 0 0 0 0 0 0 0 $void $void $3" ;;
+    esac
+}
+for whose in section level; do
+    case $whose in
+    section) first=(P) plain=G:sm=1,sst=0x10 iae=G:sm=1,sst=0x14 biae=G:sm=1,sst=0xb0 bdi=G:sm=1,sst=0x18 ;;
+    level) first=(P L:level=2) plain=G5:t2=1,st2=0x11 iae=G5:t2=1,st2=0x12 biae=G5:t2=1,st2=0xb1 bdi=G5:t2=1,st2=0x19 ;;
+    esac
+    gives "$(s 1 10 "$void" && s 2 10 "$void" && s 3 10 '10 10 0 0' && line 'E 3 30')" "${first[@]}" "$plain*10" M "$iae*5" "$plain*5" M "$plain*10" M
+    # the second before that is out of reach, and so is one that is closed after it
+    gives "$(s 1 10 '10 10 0 0' && s 2 10 "$void" && s 3 5 "$void" && s 4 10 "$void" && s 5 10 '10 10 0 0' && line 'E 5 45')" \
+        "${first[@]}" "$plain*10" M "$plain*10" M "$iae*5" M "$plain*10" M "$plain*10" M
+    # the open second voids nothing, nor does an empty one
+    gives "$(s 1 10 '10 10 0 0' && line 'E 1 15')" "${first[@]}" "$plain*10" M "$iae*5"
+    gives "$(s 1 10 '10 10 0 0' && line 'R 15 '$((${#first[@]} == 1 ? 1152 : 1286)) 'E 1 15')" "${first[@]}" "$plain*10" M "$iae*5" B:02000000 M
+    gives "$(s 1 10 '10 10 0 0' && s 2 0 "$void" && s 3 5 "$void" && line 'E 3 15')" "${first[@]}" "$plain*10" M M "$iae*5" M
+    # the far end's: near values stay; far DS goes too
+    gives "$(s 1 10 '10 0 0 0' && s 2 10 '10 0 0 0' && line 'E 2 20')" "${first[@]}" "$bdi*10" M "$biae*3" "$plain*7" M
+    gives "$(s 1 10 '10 10 0 1' && s 2 4 '4 4 0 1' && line 'E 2 14')" "${first[@]}" "$bdi*10" M "$plain*4" M
+    gives "$(s 1 10 "$void" && s 2 10 "$void" && line 'E 2 20')" "${first[@]}" "$bdi*10" M "$iae*10" M
+done
+# frames, heads and the path's values are never voided
+gives "$(line 'S 1 10 7 3 0 0 0 0 0 0 0 0 0 0 0 0 7 0 1 0' 'S 2 5 5 0 0 0 0 0 0 0 0 0 0 0 0 0 5 0 0 0' 'E 2 15')" \
+    P 'G:flags=1,sm=1,pm=1*3' 'G:sm=1,pm=1*7' M 'G:sm=1,pm=1,sst=4*5' M
+# each level by its own, and the section by its own
+gives "$(line "S 1 9 9 0 0 0 0 0 0 0 0 0 9 0 0 0 $void 9 9 0 0 0 0 0 0" "S 2 9 9 0 0 0 0 0 0 0 0 0 9 0 0 0 $void 9 9 0 0 0 0 0 0" 'E 2 18')" \
+    P L:level=3 L:level=5 'G5:sm=1,t3=1,st3=0x11,t5=1,st5=0x11*9' M 'G5:sm=1,t3=1,st3=0x11,t5=1,st5=0x12*9' M
+
 # blocks near and far in both layers
 gives "$(line 'S 1 10 10 0 0 0 0 0 0 0 0 0 10 10 0 0 10 10 0 0' 'E 1 10')" P 'G:sm=1,pm=8,sst=0x10,pst=0x81*10' M
 # losses of framing that are short: 5 frames without it and 2 with it give 2 in OOF, the first frame gives one; 62 in all are dLOF
@@ -163,7 +201,7 @@ said "$text" "$(dd bs=7 if="$work/in" 2> /dev/null | timeout 120 "$program")"
 name='pieces of 4,096 bytes'
 said "$text" "$(dd bs=4096 if="$work/in" 2> /dev/null | timeout 120 "$program")"
 
-# a reader at a pipe sees a second's line before the input ends
+# a reader at a pipe sees a second's line at the next mark, before the input ends, and the last one when it ends
 name='a line before the end of the input'
 "$work/trace" P 'Z:flags=1*2' M > "$work/in"
 coproc timeout 60 "$program"
@@ -171,12 +209,20 @@ exec {back}<&"${COPROC[0]}" {to}>&"${COPROC[1]}"
 eval "exec ${COPROC[1]}>&-"
 cat "$work/in" >&"$to"
 found=
-read -r -t 30 -u "$back" found
-said 'S 1 2 0 2 0 0 0 0 0 0 0 0 0 0 1 0 0 0 1 0' "$found"
+read -r -t 2 -u "$back" found
+said '' "$found"
+sees() {
+    found=
+    read -r -t 30 -u "$back" found
+    said "$1" "$found"
+}
+"$work/trace" M >&"$to"
+sees 'S 1 2 0 2 0 0 0 0 0 0 0 0 0 0 1 0 0 0 1 0'
+"$work/trace" 'Z*2' M >&"$to"
+sees 'S 2 0 0 0 0 0 0 0 0 0 0 0 0 0 0 0 0 0 0 0'
 exec {to}>&-
-found=
-read -r -t 30 -u "$back" found
-said 'E 1 2' "$found"
+sees 'S 3 2 2 0 0 0 0 0 0 0 0 0 0 0 0 0 0 0 0 0'
+sees 'E 3 4'
 
 # it ends where a write fails, and on an input without end
 name='a full device'

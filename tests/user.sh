@@ -87,7 +87,7 @@ for command in ledger explain; do
     "bin/$command" < "$work/fifo" > "$work/out" &
     pid=$!
     exec {to}> "$work/fifo"
-    cat examples/worked.trace >&"$to"
+    { cat examples/worked.trace && "$work/trace" M; } >&"$to" # the second mark has a line printed
     for _ in {1..100}; do [ -s "$work/out" ] && break || sleep 0.1; done
     kill "$pid"
     wait "$pid"

@@ -8,11 +8,22 @@ pub fn word(answer: Result<u64, u8>) -> u64 {
     answer.unwrap_or_else(u64::from)
 }
 
-/// Bytes of the record that otn_mark stores.
+/// Bytes of the record that otn_mark and otn_pending store.
 pub const RECORD: usize = 176;
 
-/// The bytes otn_mark stores in a buffer, as many as it has room for; the rest keep their contents. Each level has its fixed place,
-/// and there are zeros where it is not provisioned.
+/// Bit 8 of what they answer: there is a second to tell, and the record is filled.
+pub const TOLD: u64 = 1 << 8;
+
+/// The answer of otn_mark and otn_pending: without a second the buffer keeps its contents.
+fn told(second: Option<Second>, buffer: &mut [u8]) -> u64 {
+    second.map_or(0, |second| {
+        record(&second, buffer);
+        TOLD
+    })
+}
+
+/// The bytes stored in a buffer, as many as it has room for; the rest keep their contents. Each level has its fixed place, and there
+/// are zeros where it is not provisioned.
 pub fn record(second: &Second, buffer: &mut [u8]) {
     let levels = second.levels.iter().flat_map(|four| four.unwrap_or([0; 4]));
     let bytes = second.figures.into_iter().chain(levels).flat_map(u32::to_le_bytes);
@@ -100,10 +111,14 @@ impl Card {
 
     pub fn mark(&mut self, right_length: bool, buffer: &mut [u8]) -> u64 {
         match &mut self.supervisor {
-            Some(s) if right_length => word(s.mark().map(|second| {
-                record(&second, buffer);
-                0
-            })),
+            Some(s) if right_length => word(s.mark().map(|reported| told(reported, buffer))),
+            _ => 17,
+        }
+    }
+
+    pub fn pending(&self, right_length: bool, buffer: &mut [u8]) -> u64 {
+        match &self.supervisor {
+            Some(s) if right_length => told(s.pending(), buffer),
             _ => 17,
         }
     }

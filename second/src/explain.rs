@@ -1,8 +1,9 @@
-//! The explanation of a trace: its listing, with a line for each frame at which anything changed.
+//! The explanation of a trace: its listing, with a line for each frame at which anything changed. A second's line stands where its
+//! report does: at the next mark, after the frames of the next second; the last one's at the end.
 
 use crate::level::Level;
 use crate::provisioning::{PATH, SECTION};
-use crate::reader;
+use crate::reader::{self, Place};
 use crate::report;
 use crate::supervisor::Supervisor;
 
@@ -100,7 +101,8 @@ fn readable(trace: &[u8; 64]) -> String {
 /// The explanation of a whole trace.
 pub fn explain(trace: &[u8]) -> String {
     let mut before = State::before_all();
-    reader::told(trace, |supervisor, total| {
+    reader::told(trace, |place, supervisor| {
+        let Place::Frame(total) = place else { return reader::seconds(place, supervisor) };
         let now = State::of(supervisor);
         let changes = now.changes_since(&before);
         before = now;

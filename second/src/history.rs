@@ -4,7 +4,7 @@ use std::collections::VecDeque;
 
 /// How far a look-back goes before it takes up the answer recorded there.
 pub const WINDOW: u64 = 64;
-/// How many frames are kept when a second is closed: three trace cycles and some.
+/// How many frames are kept when a second is closed, and more where the pending second has more: three trace cycles and some.
 pub const KEPT: usize = 512;
 
 /// What one frame brought.
@@ -108,14 +108,58 @@ impl<R, S: Default> History<R, S> {
         let i = (number - self.dropped - 1) as usize;
         &mut self.frames[i].standing
     }
-    pub fn after(&self, number: u64) -> impl Iterator<Item = &Frame<R, S>> {
-        self.frames.iter().skip((number - self.dropped) as usize)
+    /// The frames of a stretch.
+    pub fn of(&self, stretch: Stretch) -> impl Iterator<Item = &Frame<R, S>> {
+        self.frames.range((stretch.after - self.dropped) as usize..(stretch.last - self.dropped) as usize)
     }
-    pub fn forget_before_last(&mut self, kept: usize) {
-        while self.frames.len() > kept {
+    /// Drops the frames up to `number`, but for the last `kept` of all.
+    pub fn forget(&mut self, number: u64, kept: usize) {
+        while self.dropped < number && self.frames.len() > kept {
             self.frames.pop_front();
             self.dropped += 1;
         }
+    }
+}
+
+/// The frames after one frame up to and with another, by number.
+#[derive(Clone, Copy, Debug, Default, PartialEq, Eq)]
+pub struct Stretch {
+    pub after: u64,
+    pub last: u64,
+}
+
+impl Stretch {
+    pub fn frames(&self) -> u64 {
+        self.last - self.after
+    }
+    /// This one and the one that follows it.
+    pub fn with(self, next: Stretch) -> Stretch {
+        Stretch { after: self.after, last: next.last }
+    }
+}
+
+/// The four figures of a section, path or level over the frames of one second.
+#[derive(Clone, Copy, Debug, Default, PartialEq, Eq)]
+pub struct Figures {
+    pub near: u32,
+    pub far: u32,
+    pub near_ds: bool,
+    pub far_ds: bool,
+}
+
+impl Figures {
+    /// "pIAE discards near and far values .., pBIAE the far values" (K3).
+    pub fn discarded(self, iae: bool, biae: bool) -> Figures {
+        Figures {
+            near: if iae { 0 } else { self.near },
+            far: if iae || biae { 0 } else { self.far },
+            near_ds: self.near_ds && !iae,
+            far_ds: self.far_ds && !iae && !biae,
+        }
+    }
+    /// As they stand in a line and in a record.
+    pub fn four(&self) -> [u32; 4] {
+        [self.near, self.far, u32::from(self.near_ds), u32::from(self.far_ds)]
     }
 }
 

@@ -4,7 +4,7 @@
 //! Order in a frame: STAT, then trace and BDI, then dTIM, then dIAE and BIAE. What is forgotten: by SSF trace, BDI, BIAE and STAT;
 //! by dAIS trace, BDI and BIAE; by dTIM, acting or not, BIAE alone; by dLTC, dOCI and dLCK nothing.
 
-use crate::history::{self, latest_row, latest_value, three_cycles, History, Seconds, KEPT};
+use crate::history::{self, latest_row, latest_value, three_cycles, Figures, History, Seconds, Stretch, KEPT};
 use crate::provisioning::{LevelProvisioning, PATH};
 
 /// Where a level's three bytes begin in the 64: "row 3 columns 7, 4, 1 for levels 1 to 3 and row 2 columns 11, 8, 5 for levels 4
@@ -179,28 +179,25 @@ impl Level {
         Standing { ddeg: self.ddeg(), ..frame }
     }
 
-    /// A mark: near blocks, far blocks, near DS, far DS of the frames after `began_after`.
-    pub fn close(&mut self, began_after: u64) -> [u32; 4] {
-        let (mut near, mut far, mut near_ds, mut far_ds) = (0, 0, false, false);
-        let (mut iae, mut biae) = (false, false);
-        for frame in self.history.after(began_after) {
+    /// Near blocks, far blocks, near DS, far DS of a second, put to 0 and false by the level's own dIAE and dBIAE in some frame of
+    /// `voiding`.
+    pub fn figures(&self, second: Stretch, voiding: Stretch) -> Figures {
+        let mut all = Figures::default();
+        for frame in self.history.of(second) {
             let (r, s) = (&frame.received, &frame.standing);
-            near += u32::from(!s.silent() && r.violations > 0);
-            far += u32::from(!s.silent() && (1..=8).contains(&r.bei));
-            near_ds |= s.silent() || s.dtim;
-            far_ds |= s.dbdi;
-            iae |= s.diae();
-            biae |= s.dbiae;
+            all.near += u32::from(!s.silent() && r.violations > 0);
+            all.far += u32::from(!s.silent() && (1..=8).contains(&r.bei));
+            all.near_ds |= s.silent() || s.dtim;
+            all.far_ds |= s.dbdi;
         }
-        // "An IAE or BIAE second discards the level's values as the section's".
-        if iae {
-            (near, near_ds) = (0, false);
-        }
-        if iae || biae {
-            (far, far_ds) = (0, false);
-        }
-        self.seconds.close(near >= self.provisioning.degthr, self.provisioning.degm);
-        self.history.forget_before_last(KEPT);
-        [near, far, u32::from(near_ds), u32::from(far_ds)]
+        let stood = |what: fn(&Standing) -> bool| self.history.of(voiding).any(|frame| what(&frame.standing));
+        all.discarded(stood(Standing::diae), stood(|s| s.dbiae))
+    }
+
+    /// A mark: dDEG by the second just closed, with its own discard alone.
+    pub fn close(&mut self, closed: Stretch) {
+        let bad = self.figures(closed, closed).near >= self.provisioning.degthr;
+        self.seconds.close(bad, self.provisioning.degm);
+        self.history.forget(closed.after, KEPT);
     }
 }

@@ -5,7 +5,8 @@
 //! three cycles that end here, the OOF frames with no long IF stretch between them. A look-back stops after a window of frames and
 //! takes up the answer recorded there, which is the same question put to the same history.
 //!
-//! The six tandem levels of document 02 (K1) are written the same way, each over its own history: `level.rs`.
+//! The six tandem levels of document 02 (K1) are written the same way, each over its own history: `level.rs`. Of the pending second (K3)
+//! nothing is kept but which frames it has: what is told of it is asked when it is told.
 
 pub mod card;
 pub mod cases;
@@ -22,6 +23,8 @@ pub mod provisioning;
 pub mod random;
 pub mod reader;
 pub mod report;
+pub mod seconds_cover;
+pub mod seconds_generate;
 pub mod supervisor;
 
 #[cfg(test)]
@@ -29,3 +32,6 @@ mod tests;
 
 #[cfg(test)]
 mod tests_levels;
+
+#[cfg(test)]
+mod tests_seconds;

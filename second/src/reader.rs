@@ -2,7 +2,7 @@
 
 use crate::listing;
 use crate::provisioning::{LevelProvisioning, Provisioning};
-use crate::supervisor::Supervisor;
+use crate::supervisor::{Second, Supervisor};
 
 #[derive(Clone, Debug, PartialEq, Eq)]
 pub enum Record<'a> {
@@ -79,7 +79,28 @@ fn level(supervisor: &mut Supervisor, body: &[u8]) -> Result<(), u8> {
 
 /// The listing of a whole trace.
 pub fn list(trace: &[u8]) -> String {
-    told(trace, |_, _| String::new())
+    told(trace, seconds)
+}
+
+/// Where a scan stands.
+#[derive(Clone, Copy, Debug)]
+pub enum Place {
+    /// After an accepted frame, which has this number in the trace.
+    Frame(u64),
+    /// After an accepted mark, with the second that it reports.
+    Mark(Option<Second>),
+    /// Where the scan ends, at the end of the input or at a refusal.
+    End,
+}
+
+/// The S lines: a mark's second, and "at the end of the scan the pending second, if there is one, is printed before R or E" (K3).
+pub fn seconds(place: Place, supervisor: &Supervisor) -> String {
+    let told = match place {
+        Place::Frame(_) => None,
+        Place::Mark(reported) => reported,
+        Place::End => supervisor.pending(),
+    };
+    told.as_ref().map_or(String::new(), listing::second)
 }
 
 /// A scan: what the records accepted so far have made.
@@ -93,8 +114,8 @@ struct Scan {
 }
 
 impl Scan {
-    /// One record: what is printed of it, or its refusal: 16, then 18 and 19, then the rest.
-    fn take(&mut self, record: Record, mut tell: impl FnMut(&Supervisor, u64) -> String) -> Result<String, u8> {
+    /// One record: what is told of it, or its refusal: 16, then 18 and 19, then the rest.
+    fn take(&mut self, record: Record, mut tell: impl FnMut(Place, &Supervisor) -> String) -> Result<String, u8> {
         let Some(s) = &mut self.supervisor else {
             let Record::Provisioning(body) = record else { return Err(16) };
             self.supervisor = Some(Supervisor::fresh(provisioning(body)?));
@@ -104,9 +125,9 @@ impl Scan {
             Record::Provisioning(_) => Err(16),
             Record::Level(body) => level(s, body).map(|()| String::new()),
             Record::Mark => {
-                let second = s.mark()?;
+                let reported = s.mark()?;
                 self.marks += 1;
-                Ok(listing::second(&second))
+                Ok(tell(Place::Mark(reported), s))
             }
             Record::Frame { kind, overhead, flags, sm, pm, counts } => {
                 if self.frame_kind.is_some_and(|used| used != kind) {
@@ -115,31 +136,31 @@ impl Scan {
                 s.step_levels(overhead, flags, sm, pm, counts)?;
                 self.frame_kind = Some(kind);
                 self.frames += 1;
-                Ok(tell(s, self.frames))
+                Ok(tell(Place::Frame(self.frames), s))
             }
         }
     }
 }
 
-/// The listing of a whole trace, and among its lines what `tell` says after each frame accepted: of the supervisor then, and of the
-/// frame's number in the trace.
-pub fn told(trace: &[u8], mut tell: impl FnMut(&Supervisor, u64) -> String) -> String {
+/// What `tell` says of a whole trace, after each frame and mark accepted and at the end, of the supervisor then; and then the R and E
+/// lines.
+pub fn told(trace: &[u8], mut tell: impl FnMut(Place, &Supervisor) -> String) -> String {
     let mut out = String::new();
     let mut scan = Scan::default();
     let mut offset = 0;
-    while offset < trace.len() {
+    let mut refused = None;
+    while offset < trace.len() && refused.is_none() {
         let taken = record(&trace[offset..]).and_then(|(record, bytes)| Ok((scan.take(record, &mut tell)?, bytes)));
         match taken {
             Ok((text, bytes)) => {
                 out += &text;
                 offset += bytes;
             }
-            Err(number) => {
-                out += &listing::refusal(number, offset as u64);
-                break;
-            }
+            Err(number) => refused = Some(number),
         }
     }
+    out += &scan.supervisor.as_ref().map_or(String::new(), |s| tell(Place::End, s));
+    out += &refused.map_or(String::new(), |number| listing::refusal(number, offset as u64));
     out + &listing::end(scan.marks, scan.frames)
 }
 

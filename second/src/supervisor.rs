@@ -1,6 +1,8 @@
 //! The supervisor: each rule of document 01 as a question to the history. The tandem levels stand beside it, in `level.rs`.
 
-use crate::history::{latest_row, latest_value, three_cycles, History, Received, Seconds, Standing, KEPT, WINDOW};
+use crate::history::{
+    latest_row, latest_value, three_cycles, Figures, History, Received, Seconds, Standing, Stretch, KEPT, WINDOW,
+};
 use crate::level::{self, Level};
 use crate::provisioning::{LevelProvisioning, Provisioning, PATH, SECTION};
 use crate::report;
@@ -8,7 +10,7 @@ use std::collections::VecDeque;
 
 pub const FULL_SECOND: u64 = 400_000;
 
-/// A closed second: the twenty figures of line, section and path, and the four of each level that is provisioned.
+/// A second that is told: the twenty figures of line, section and path, and the four of each level that is provisioned.
 #[derive(Clone, Copy, Debug, PartialEq, Eq)]
 pub struct Second {
     pub figures: [u32; 20],
@@ -34,8 +36,8 @@ pub struct Supervisor {
     accepted: [Option<(u64, [u8; 64])>; 2],
     seconds: [Seconds; 2],
     closed: u64,
-    /// The last frame of the last closed second.
-    second_began_after: u64,
+    /// The frames of the pending second, which is the one closed last (K3).
+    pending: Stretch,
     /// "A level is monitored only if provisioned" (K1).
     levels: [Option<Level>; 6],
 }
@@ -55,7 +57,7 @@ impl Supervisor {
             accepted: [None, None],
             seconds: Default::default(),
             closed: 0,
-            second_began_after: 0,
+            pending: Stretch::default(),
             levels: Default::default(),
         }
     }
@@ -83,6 +85,7 @@ impl Supervisor {
     /// A supervisor that has closed so many seconds more, all of them empty: for refusal 4, which no trace can reach in time.
     pub fn with_closed(mut self, closed: u64) -> Supervisor {
         self.closed = closed;
+        self.pending.after = self.pending.last;
         self
     }
 
@@ -91,7 +94,12 @@ impl Supervisor {
     }
 
     pub fn open_frames(&self) -> u64 {
-        self.history.last() - self.second_began_after
+        self.open().frames()
+    }
+
+    /// The frames of the open second.
+    fn open(&self) -> Stretch {
+        Stretch { after: self.pending.last, last: self.history.last() }
     }
 
     pub fn standing(&self) -> Standing {
@@ -274,46 +282,67 @@ impl Supervisor {
         }
     }
 
-    /// A mark: the closed second, or refusal 4.
-    pub fn mark(&mut self) -> Result<Second, u8> {
+    /// A mark: the second that it reports, or refusal 4. "a report now comes one mark late", and "the first mark reports nothing": it
+    /// tells the pending second, voided by what stood in that one and in the one closed here, which is pending from here on.
+    pub fn mark(&mut self) -> Result<Option<Second>, u8> {
         if self.closed == u64::from(u32::MAX) {
             return Err(4);
         }
+        let closed = self.open();
+        let reported = self.told(self.pending.with(closed));
+        // "The degraded decision still uses the second just closed, with its own discard alone".
+        for layer in [SECTION, PATH] {
+            let bad = self.figures(layer, closed, closed).near >= self.provisioning.degthr[layer];
+            self.seconds[layer].close(bad, self.provisioning.degm[layer]);
+        }
+        self.levels.iter_mut().flatten().for_each(|level| level.close(closed));
         self.closed += 1;
-        let mut second = [0; 20];
-        second[0] = self.closed as u32;
-        second[1] = self.open_frames() as u32;
-        let (mut iae, mut biae) = (false, false);
-        let (mut near, mut far, mut near_ds, mut far_ds) = ([0u32; 2], [0u32; 2], [false; 2], [false; 2]);
-        for frame in self.history.after(self.second_began_after) {
-            let (r, s) = (&frame.received, &frame.standing);
-            second[2 + report::head(s) as usize] += 1;
-            let stat = s.dais() || s.doci() || s.dlck();
-            for layer in [SECTION, PATH] {
-                let silent = s.ssf[layer] || (layer == PATH && stat);
-                near[layer] += u32::from(!silent && r.violations[layer] > 0);
-                far[layer] += u32::from(!silent && (1..=8).contains(&r.bei[layer]));
-                near_ds[layer] |= silent || s.dtim[layer];
-                far_ds[layer] |= s.dbdi[layer];
-            }
-            iae |= s.diae;
-            biae |= s.dbiae;
+        self.pending = closed;
+        self.history.forget(closed.after, KEPT);
+        Ok(reported)
+    }
+
+    /// The pending second as it is told at the end of a scan: the open second has no pIAE and no pBIAE yet, so that its own discard
+    /// alone counts. None before the first mark.
+    pub fn pending(&self) -> Option<Second> {
+        self.told(self.pending)
+    }
+
+    /// The pending second, where there is one, voided by what stood in some frame of `voiding`. Frames and heads are never discarded.
+    fn told(&self, voiding: Stretch) -> Option<Second> {
+        if self.closed == 0 {
+            return None;
         }
-        if iae {
-            (near[SECTION], near_ds[SECTION]) = (0, false);
-        }
-        if iae || biae {
-            (far[SECTION], far_ds[SECTION]) = (0, false);
+        let mut figures = [0; 20];
+        (figures[0], figures[1]) = (self.closed as u32, self.pending.frames() as u32);
+        for frame in self.history.of(self.pending) {
+            figures[2 + report::head(&frame.standing) as usize] += 1;
         }
         for layer in [SECTION, PATH] {
-            let four = [near[layer], far[layer], u32::from(near_ds[layer]), u32::from(far_ds[layer])];
-            second[12 + 4 * layer..16 + 4 * layer].copy_from_slice(&four);
-            self.seconds[layer].close(near[layer] >= self.provisioning.degthr[layer], self.provisioning.degm[layer]);
+            let four = self.figures(layer, self.pending, voiding).four();
+            figures[12 + 4 * layer..16 + 4 * layer].copy_from_slice(&four);
         }
-        let levels = self.levels.each_mut().map(|level| level.as_mut().map(|level| level.close(self.second_began_after)));
-        self.second_began_after = self.history.last();
-        self.history.forget_before_last(KEPT);
-        Ok(Second { figures: second, levels })
+        let levels = self.levels.each_ref().map(|level| Some(level.as_ref()?.figures(self.pending, voiding).four()));
+        Some(Second { figures, levels })
+    }
+
+    /// Near blocks, far blocks, near DS, far DS of a layer in a second, the section's put to 0 and false by dIAE and dBIAE in some frame of
+    /// `voiding`; the path has neither.
+    fn figures(&self, layer: usize, second: Stretch, voiding: Stretch) -> Figures {
+        let mut all = Figures::default();
+        for frame in self.history.of(second) {
+            let (r, s) = (&frame.received, &frame.standing);
+            let silent = s.ssf[layer] || (layer == PATH && (s.dais() || s.doci() || s.dlck()));
+            all.near += u32::from(!silent && r.violations[layer] > 0);
+            all.far += u32::from(!silent && (1..=8).contains(&r.bei[layer]));
+            all.near_ds |= silent || s.dtim[layer];
+            all.far_ds |= s.dbdi[layer];
+        }
+        if layer == PATH {
+            return all;
+        }
+        let stood = |what: fn(&Standing) -> bool| self.history.of(voiding).any(|frame| what(&frame.standing));
+        all.discarded(stood(|s| s.diae), stood(|s| s.dbiae))
     }
 
     /// The accepted trace of a layer for a lent buffer of `room` bytes, or refusal 11 to 13.

@@ -1,7 +1,7 @@
 //! Request K1: the directed cases of the levels, where a level's bytes stand, the order of refusals in records and in calls, and what
 //! generated traces with levels must keep.
 
-use crate::card::{Card, LevelFields, RECORD};
+use crate::card::{Card, LevelFields, RECORD, TOLD};
 use crate::cases;
 use crate::explain::explain;
 use crate::frame::{plain, plain_level, Sent};
@@ -11,9 +11,10 @@ use crate::level_cover::{self, LevelCover};
 use crate::level_generate;
 use crate::provisioning::LevelProvisioning;
 use crate::random::Random;
-use crate::reader::{list, told, Trace};
+use crate::reader::{list, told, Place, Trace};
 use crate::report::{level_bits, level_word};
-use crate::supervisor::{Supervisor, FULL_SECOND};
+use crate::seconds_generate;
+use crate::supervisor::{Second, Supervisor, FULL_SECOND};
 
 /// Each pair of a level's conditions that can begin and clear in the same frame is in some directed case.
 #[test]
@@ -23,8 +24,10 @@ fn each_pair_is_in_some_case() {
     for entry in std::fs::read_dir(dir).unwrap() {
         let case = cases::read(&std::fs::read_to_string(entry.unwrap().path()).unwrap()).unwrap();
         let mut before = [Standing::default(); 6];
-        told(&case.bytes, |s, _| {
-            cover.follow(s, &mut before);
+        told(&case.bytes, |place, s| {
+            if let Place::Frame(_) = place {
+                cover.follow(s, &mut before);
+            }
             String::new()
         });
     }
@@ -167,6 +170,8 @@ struct Counters {
     iae: bool,
     discard_far: bool,
     deg: (bool, u8),
+    /// The second closed last, after its own discard.
+    pending: Option<[u32; 4]>,
 }
 
 /// A defect that changes after `n` in a row of the other sort: what stands, and how many there were.
@@ -225,19 +230,26 @@ impl Counters {
         s
     }
 
-    fn mark(&mut self, p: &LevelProvisioning) -> [u32; 4] {
+    /// The figures that are reported, and those of the second just closed are pending.
+    fn mark(&mut self, p: &LevelProvisioning) -> Option<[u32; 4]> {
+        let [iae, biae] = [self.iae, self.iae || self.discard_far].map(|void| u32::from(!void));
+        let reported = self.pending.map(|[near, far, near_ds, far_ds]| [near * iae, far * biae, near_ds * iae, far_ds * biae]);
         let near = [self.near, u32::from(self.near_ds)].map(|figure| if self.iae { 0 } else { figure });
         let far = [self.far, u32::from(self.far_ds)].map(|figure| if self.iae || self.discard_far { 0 } else { figure });
         filter(&mut self.deg, near[0] >= p.degthr, p.degm);
         (self.near, self.far, self.near_ds, self.far_ds, self.iae, self.discard_far) = Default::default();
-        [near[0], far[0], near[1], far[1]]
+        self.pending = Some([near[0], far[0], near[1], far[1]]);
+        reported
     }
 }
 
 #[test]
 fn counters_tell_the_same() {
-    for index in 0..100 {
-        let g = level_generate::trace(2, index);
+    for index in 0..150 {
+        let g = match index % 3 {
+            2 => seconds_generate::trace(2, index),
+            _ => level_generate::trace(2, index),
+        };
         let mut s = begun(&g);
         let mut told: Vec<(u8, LevelProvisioning, Counters)> =
             g.levels.iter().map(|(level, p)| (*level, p.clone(), Counters::default())).collect();
@@ -257,9 +269,12 @@ fn counters_tell_the_same() {
                     }
                 }
                 Item::Mark => {
-                    let second = s.mark().unwrap();
+                    let reported = s.mark().unwrap();
+                    let pending = s.pending().unwrap();
                     for (level, p, counters) in &mut told {
-                        assert_eq!(second.levels[usize::from(*level) - 1], Some(counters.mark(p)), "{}: level {level}", g.about);
+                        let at = usize::from(*level) - 1;
+                        assert_eq!(reported.and_then(|second| second.levels[at]), counters.mark(p), "{}: level {level}", g.about);
+                        assert_eq!(pending.levels[at], counters.pending, "{}: level {level}", g.about);
                         assert_eq!(s.level(*level).unwrap().standing().ddeg, counters.deg.0);
                     }
                 }
@@ -282,7 +297,9 @@ fn levels_are_silent() {
                     assert_eq!(s.standing(), base.standing());
                 }
                 Item::Mark => {
-                    let (second, alone) = (s.mark().unwrap(), base.mark().unwrap());
+                    let (reported, reported_alone) = (s.mark().unwrap(), base.mark().unwrap());
+                    assert_eq!(reported.map(|second| second.figures), reported_alone.map(|second| second.figures));
+                    let (second, alone) = (s.pending().unwrap(), base.pending().unwrap());
                     assert_eq!(second.figures, alone.figures);
                     assert_eq!(alone.levels, [None; 6]);
                     let given: Vec<u8> = (1..=6).filter(|l| second.levels[usize::from(*l) - 1].is_some()).collect();
@@ -324,7 +341,9 @@ fn a_level_is_its_place_alone() {
                 }
                 Item::Mark => {
                     let (a, b) = (s.mark().unwrap(), moved.mark().unwrap());
-                    (0..6).for_each(|i| assert_eq!(a.levels[i], b.levels[order[i]]));
+                    for (a, b) in a.iter().zip(&b).chain(s.pending().iter().zip(&moved.pending())) {
+                        (0..6).for_each(|i| assert_eq!(a.levels[i], b.levels[order[i]]));
+                    }
                 }
             }
         }
@@ -355,7 +374,9 @@ fn a_level_reads_its_own_bytes() {
                 }
                 Item::Mark => {
                     let at = usize::from(level) - 1;
-                    assert_eq!(s.mark().unwrap().levels[at], noisy.mark().unwrap().levels[at]);
+                    let of = |second: Option<Second>| second.and_then(|second| second.levels[at]);
+                    assert_eq!(of(s.mark().unwrap()), of(noisy.mark().unwrap()));
+                    assert_eq!(of(s.pending()), of(noisy.pending()));
                 }
             }
         }
@@ -401,6 +422,20 @@ fn calls_answer_what_is_listed() {
         }
         let mut listed = String::new();
         let (mut marks, mut frames) = (0, 0);
+        // The line of a record of 44 figures, with nothing written past it.
+        let line = |bytes: &[u8; RECORD + 4]| {
+            assert_eq!(bytes[RECORD..], [0xEE; 4]);
+            let figures: Vec<u32> = bytes.chunks(4).map(|w| u32::from_le_bytes(w.try_into().unwrap())).take(44).collect();
+            let mut printed: Vec<u32> = figures[..20].to_vec();
+            for level in 1..=6u8 {
+                let four = &figures[20 + 4 * (usize::from(level) - 1)..][..4];
+                match g.levels.iter().any(|(l, _)| *l == level) {
+                    true => printed.extend(four),
+                    false => assert_eq!(four, [0; 4]),
+                }
+            }
+            format!("S {}\n", printed.iter().map(u32::to_string).collect::<Vec<_>>().join(" "))
+        };
         for item in &g.items {
             match item {
                 Item::Frame(f) => {
@@ -414,21 +449,18 @@ fn calls_answer_what_is_listed() {
                 }
                 Item::Mark => {
                     let mut bytes = [0xEE; RECORD + 4];
-                    assert_eq!(card.mark(true, &mut bytes), 0);
-                    assert_eq!(bytes[RECORD..], [0xEE; 4]);
-                    let figures: Vec<u32> = bytes.chunks(4).map(|w| u32::from_le_bytes(w.try_into().unwrap())).take(44).collect();
-                    let mut printed: Vec<u32> = figures[..20].to_vec();
-                    for level in 1..=6u8 {
-                        let four = &figures[20 + 4 * (usize::from(level) - 1)..][..4];
-                        match g.levels.iter().any(|(l, _)| *l == level) {
-                            true => printed.extend(four),
-                            false => assert_eq!(four, [0; 4]),
-                        }
+                    let answer = card.mark(true, &mut bytes);
+                    assert_eq!((answer, bytes == [0xEE; RECORD + 4]), if marks == 0 { (0, true) } else { (TOLD, false) });
+                    if marks > 0 {
+                        listed += &line(&bytes);
                     }
                     marks += 1;
-                    listed += &format!("S {}\n", printed.iter().map(u32::to_string).collect::<Vec<_>>().join(" "));
                 }
             }
+        }
+        let mut bytes = [0xEE; RECORD + 4];
+        if card.pending(true, &mut bytes) == TOLD {
+            listed += &line(&bytes);
         }
         assert_eq!(list(&level_generate::records(&g)), listed + &format!("E {marks} {frames}\n"));
     }
@@ -521,9 +553,10 @@ fn refusals_of_the_other_calls() {
     for layer in 2..=8 {
         assert_eq!(card.trace(true, layer, &mut buffer[..64]), 11);
     }
-    // A record that is too short gets what it has room for.
+    // The first mark leaves the record. One that is too short gets what it has room for.
     let mut short = [7; 83];
-    assert_eq!(card.mark(true, &mut short), 0);
+    assert_eq!((card.mark(true, &mut short), short), (0, [7; 83]));
+    assert_eq!(card.pending(true, &mut short), TOLD);
     assert_eq!((&short[..8], &short[80..]), (&[1, 0, 0, 0, 0x80, 0x1A, 6, 0][..], &[0; 3][..]));
 }
 
@@ -548,11 +581,13 @@ fn what_the_readings_tell() {
     assert_eq!(buffer, std::array::from_fn(|i| i as u8));
     assert_eq!(card.level_report(true, 6), 1 << 8);
     let mut record = [0; RECORD];
-    card.mark(true, &mut record);
+    card.mark(true, &mut []);
+    assert_eq!(card.pending(true, &mut record), TOLD);
     assert_eq!(record[4 * 40..], [193, 0, 0, 0, 0, 0, 0, 0, 0, 0, 0, 0, 0, 0, 0, 0]);
     frame(&mut card, 448, 1);
     assert_eq!(card.level_report(true, 6), 1 << 8);
-    card.mark(true, &mut []);
+    assert_eq!(card.mark(true, &mut record), TOLD);
+    assert_eq!(record[4 * 40..4 * 41], [193, 0, 0, 0]);
     // dDEG, aTSD, cDEG.
     assert_eq!(card.level_report(true, 6), 1 << 8 | 1 << 18 | 1 << 20 | 1 << 26);
     card.mark(true, &mut []);
@@ -662,7 +697,6 @@ fn the_words_of_a_level() {
         "F 1 2 2 +IF\nF 1 3 3 +IM\n\
          F 1 194 194 +TCM3.dTIM +TCM3.cTIM +TCM6.dTIM +TCM6.aTSF +TCM6.cTIM SM.trace=\"{dots}\" PM.trace=\"{dots}\" TCM3.trace=\"{x}\" TCM6.trace=\"{x}\"\n\
          S 1 194 194 0 0 0 0 0 0 0 0 0 0 0 0 0 0 0 0 0 0 0 1 0 193 0 1 0\n\
-         S 2 1 1 0 0 0 0 0 0 0 0 0 0 0 0 0 0 0 0 0 0 0 1 0 1 0 1 0\n\
          F 3 1 196 +TCM6.dDEG +TCM6.aTSD\n\
          F 3 2 197 +TSF-P +SM.SSF +PM.SSF +SM.aTSF +SM.aBDI +PM.aTSF +PM.aBDI +SM.cSSF +PM.cSSF \
          +TCM3.SSF -TCM3.dTIM +TCM3.aTSF +TCM3.cSSF -TCM3.cTIM +TCM6.SSF -TCM6.dTIM +TCM6.cSSF -TCM6.cTIM head=1 \
@@ -670,6 +704,7 @@ fn the_words_of_a_level() {
          F 3 3 198 -TSF-P -SM.SSF -PM.SSF -SM.aTSF -SM.aBDI -PM.aTSF -PM.aBDI -SM.cSSF -PM.cSSF \
          -TCM3.SSF -TCM3.aTSF -TCM3.cSSF -TCM6.SSF -TCM6.aTSF -TCM6.cSSF +TCM6.cDEG head=0\n\
          F 3 5 200 +TCM3.dLTC +TCM3.aTSF +TCM3.cLTC +TCM6.dAIS +TCM6.aTSF +TCM6.cSSF -TCM6.cDEG\n\
+         S 2 1 1 0 0 0 0 0 0 0 0 0 0 0 0 0 0 0 0 0 0 0 1 0 1 0 1 0\n\
          E 2 200\n"
     );
     assert_eq!(explain(&t.0), expected);

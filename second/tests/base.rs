@@ -1,24 +1,83 @@
-//! A trace of kinds 1 to 3 prints what it printed before there were levels.
+//! A trace of kinds 1 to 3 prints what it printed before there were levels, but for what request K3 moved and voided.
 
 use second::explain::explain;
 use second::generate;
-use second::reader::list;
+use second::listing;
+use second::reader::{list, told, Place};
 
 /// FNV-1a, 64 bits.
 fn digest(of: u64, bytes: &[u8]) -> u64 {
     bytes.iter().fold(of, |d, byte| (d ^ u64::from(*byte)).wrapping_mul(0x0100_0000_01B3))
 }
 
-/// The traces by seed, their listings and their explanations, as one number. It was taken before the levels were written. A request
-/// that changes what these traces print takes it anew.
+/// The listing as it was before K3: at each mark the second just closed, with its own discard alone. That is the second pending after it.
+fn listed_before(bytes: &[u8]) -> String {
+    told(bytes, |place, supervisor| match place {
+        Place::Mark(_) => listing::second(&supervisor.pending().expect("a mark leaves a second pending")),
+        _ => String::new(),
+    })
+}
+
+/// The number that a line has first.
+fn number(line: &str) -> u64 {
+    line.split(' ').nth(1).and_then(|n| n.parse().ok()).expect("a line begins with a letter and a number")
+}
+
+/// The explanation as it was before K3: its F lines as they are, and each S line of that listing before the first F line of a later second.
+fn explained_before(bytes: &[u8]) -> String {
+    let listed = listed_before(bytes);
+    let mut seconds = listed.lines().peekable();
+    let mut out = String::new();
+    for line in explain(bytes).lines().filter(|line| line.starts_with('F')) {
+        while let Some(second) = seconds.next_if(|second| second.starts_with('S') && number(second) < number(line)) {
+            out += &format!("{second}\n");
+        }
+        out += &format!("{line}\n");
+    }
+    seconds.for_each(|rest| out += &format!("{rest}\n"));
+    out
+}
+
+/// The traces by seed, their listings and their explanations, as one number. It was taken before the levels were written, and still holds where what
+/// K3 changed is undone: that a report comes one mark late, and that the second after voids it too.
 #[test]
 fn traces_without_levels_print_what_they_printed() {
     let mut all = 0xCBF2_9CE4_8422_2325;
     for seed in 1..=3 {
         for index in 1..=60 {
             let bytes = generate::trace(seed, index).bytes;
-            all = [&bytes[..], list(&bytes).as_bytes(), explain(&bytes).as_bytes()].iter().fold(all, |d, part| digest(d, part));
+            let (listed, explained) = (listed_before(&bytes), explained_before(&bytes));
+            all = [&bytes[..], listed.as_bytes(), explained.as_bytes()].iter().fold(all, |d, part| digest(d, part));
         }
     }
     assert_eq!(all, 14_106_104_922_331_150_045);
+}
+
+/// And what is printed since K3 is that listing, line for line, with nothing changed but section figures that are 0 now: near ones only together
+/// with far ones, and in the last second none.
+#[test]
+fn k3_changes_nothing_else() {
+    let mut voided = [0; 4];
+    for seed in 1..=3 {
+        for index in 1..=60 {
+            let bytes = generate::trace(seed, index).bytes;
+            let (now, before) = (list(&bytes), listed_before(&bytes));
+            assert_eq!(now.lines().count(), before.lines().count());
+            let last = before.lines().filter(|line| line.starts_with('S')).count();
+            for (i, (now, before)) in now.lines().zip(before.lines()).enumerate() {
+                let (now, before): (Vec<&str>, Vec<&str>) = (now.split(' ').collect(), before.split(' ').collect());
+                assert_eq!(now.len(), before.len());
+                // S, the number, frames and heads, then the section's four.
+                let changed: Vec<usize> = (0..now.len()).filter(|at| now[*at] != before[*at]).collect();
+                for at in &changed {
+                    assert!(before[0] == "S" && (13..17).contains(at) && now[*at] == "0" && i + 1 < last, "{before:?}, {now:?}");
+                    voided[at - 13] += 1;
+                }
+                if changed.contains(&13) || changed.contains(&15) {
+                    assert_eq!(now[13..17], ["0"; 4]);
+                }
+            }
+        }
+    }
+    assert!(voided.iter().all(|times| *times > 0), "{voided:?}");
 }

@@ -4,7 +4,7 @@
 #include <stddef.h>
 #include <stdint.h>
 
-#define OTN_SUPERVISOR_BYTES 2160
+#define OTN_SUPERVISOR_BYTES 2328
 #define OTN_RECORD_BYTES 176
 
 uint64_t otn_fresh(uint8_t *sup, size_t sup_len, uint8_t k, uint32_t sm_thr, uint8_t sm_degm, uint32_t pm_thr, uint8_t pm_degm,
@@ -17,6 +17,7 @@ uint64_t otn_step(uint8_t *sup, size_t sup_len, const uint8_t *overhead, size_t 
 uint64_t otn_step_levels(uint8_t *sup, size_t sup_len, const uint8_t *overhead, size_t overhead_len, uint8_t flags, uint8_t sm,
                          uint8_t pm, uint8_t t1, uint8_t t2, uint8_t t3, uint8_t t4, uint8_t t5, uint8_t t6);
 uint64_t otn_mark(uint8_t *sup, size_t sup_len, uint8_t *record, size_t record_len);
+uint64_t otn_pending(const uint8_t *sup, size_t sup_len, uint8_t *record, size_t record_len);
 uint64_t otn_trace(const uint8_t *sup, size_t sup_len, uint8_t layer, uint8_t *out, size_t out_len);
 uint64_t otn_level_report(const uint8_t *sup, size_t sup_len, uint8_t level);
 uint64_t otn_level_trace(const uint8_t *sup, size_t sup_len, uint8_t level, uint8_t *out, size_t out_len);

@@ -3,7 +3,8 @@
 //! From the top: a band of the worst head, a lane for each of the nine failed heads, then failed frames and the near and far blocks of
 //! section and path, and of each provisioned tandem level, as bars, with defect seconds as a strip under them. Where there are more seconds than columns of pixels, several
 //! share a column, and the worst of them is shown, so that no failed second disappears; the shade tells how many of them fail. What an
-//! explanation tells of fault causes is told with the figures of a column.
+//! explanation tells of fault causes is told with the figures of a column. There the S line of a second comes after the F lines of the next
+//! one, as it is printed one mark late; both say of which second they are.
 
 use crate::program::{cut, decimal, printable, quoted};
 use std::collections::BTreeSet;
@@ -105,6 +106,14 @@ struct Causes {
     words: String,
 }
 
+/// The place of an F line: its second, the frame in it, and in the trace.
+#[derive(Clone, Copy, Debug, Default)]
+struct Told {
+    second: u64,
+    frame: u64,
+    total: u64,
+}
+
 #[derive(Debug, Default)]
 pub struct Listing {
     seconds: Vec<Second>,
@@ -115,9 +124,12 @@ pub struct Listing {
     /// Number and byte offset.
     refusal: Option<(u64, u64)>,
     frames: u64,
-    /// Frames of the seconds so far, and the frame of the last F line, both from the beginning of the trace.
+    /// Frames of the S lines so far.
     filed: u64,
-    told: u64,
+    /// Where the last F line is.
+    told: Told,
+    /// Frames of the second that is closed and has no S line yet, where F lines of the next one tell them.
+    held: Option<u64>,
     causes: Vec<Causes>,
 }
 
@@ -260,11 +272,15 @@ impl Listing {
     fn end(&mut self, [marks, frames]: [u64; 2]) -> Result<(), String> {
         let closed = self.seconds.len() as u64;
         self.frames = frames;
+        let (next, told) = (closed + 1, self.told.second);
+        if told > next {
+            return Err(format!("no S line of second {next}; expected one, as an F line is of second {told}"));
+        }
         if marks != closed {
             return Err(format!("{}; expected {closed}, the S lines", plural(marks, "mark")));
         }
         at_least(self.filed, "those of the S lines", frames)?;
-        at_least(self.told, "the F line's", frames)
+        at_least(self.told.total, "the F line's", frames)
     }
 
     /// Frames of the second that no mark has closed.
@@ -272,20 +288,48 @@ impl Listing {
         self.frames - self.filed
     }
 
-    /// A line must be of the open second.
+    /// An F line is of the open second: the one before it is closed and has no S line yet. Only before the first mark there is none.
     fn is_open(&self, second: u64) -> Result<(), String> {
-        let open = self.seconds.len() as u64 + 1;
-        (second == open).then_some(()).ok_or_else(|| format!("second {second}; expected {open}"))
+        let open = self.seconds.len() as u64 + 2;
+        let first = if open == 2 { self.told.second.max(1) } else { open };
+        match (first..=open).contains(&second) {
+            true => Ok(()),
+            false if first == open => Err(format!("second {second}; expected {open}")),
+            false => Err(format!("second {second}; expected {first} or {open}")),
+        }
     }
 
-    /// A frame that an F line tells: by its number in the second, which is more than the last one's, and by that in the trace.
-    fn frame(&mut self, frame: u64, total: u64) -> Result<(), String> {
-        let least = self.told.saturating_sub(self.filed) + 1;
+    /// The frames that a second has at least, by the last F line.
+    fn at_least_told(&self, second: u64) -> u64 {
+        if self.told.second == second {
+            self.told.frame
+        } else {
+            0
+        }
+    }
+
+    /// A frame that an F line tells: by its number in the second, which is more than the last one's, and by that in the trace, which tells
+    /// the frames of the second before.
+    fn frame(&mut self, told: Told) -> Result<(), String> {
+        let Told { second, frame, total } = told;
+        let least = self.at_least_told(second) + 1;
         if !(least..=400_000).contains(&frame) {
             return Err(format!("frame {frame}; expected {least} to 400,000"));
         }
-        self.told = self.filed + frame;
-        (total == self.told).then_some(()).ok_or_else(|| format!("frame {total} of the trace; expected {}", self.told))
+        let follows = second > self.seconds.len() as u64 + 1;
+        let [low, high] = match (follows, self.held) {
+            (false, _) => [0, 0],
+            (true, Some(frames)) => [frames, frames],
+            (true, None) => [self.at_least_told(second - 1), 400_000],
+        }
+        .map(|held| self.filed + held + frame);
+        if !(low..=high).contains(&total) {
+            let to = if low == high { String::new() } else { format!(" to {high}") };
+            return Err(format!("frame {total} of the trace; expected {low}{to}"));
+        }
+        self.held = follows.then(|| total - frame - self.filed);
+        self.told = told;
+        Ok(())
     }
 
     /// An F line: its frame is held against the lines before it. Of its changes the fault causes are kept.
@@ -293,7 +337,7 @@ impl Listing {
         let (place, changes) = words.split_at(words.len().min(3));
         let [second, frame, total] = numbers(place)?;
         self.is_open(second)?;
-        self.frame(frame, total)?;
+        self.frame(Told { second, frame, total })?;
         let turned = turns(changes)?;
         self.levels.extend(turned.iter().filter_map(|word| level_of(word)));
         let words = turned.iter().copied().filter(|word| is_cause(word)).collect::<Vec<_>>().join(" ");
@@ -305,7 +349,10 @@ impl Listing {
 
     fn second(&mut self, s: Second) -> Result<(), String> {
         let filed = s[HEAD..HEAD + 10].iter().fold(0u64, |sum, n| sum.saturating_add(*n));
-        self.is_open(s[0])?;
+        let next = self.seconds.len() as u64 + 1;
+        if s[0] != next {
+            return Err(format!("second {}; expected {next}", s[0]));
+        }
         if s[1] > 400_000 {
             return Err(format!("{}; expected at most 400,000", plural(s[1], "frame")));
         }
@@ -321,7 +368,10 @@ impl Listing {
                 return Err(format!("{} for a defect second; expected 0 or 1", s[near + 2].max(s[near + 3])));
             }
         }
-        at_least(self.told.saturating_sub(self.filed), "the F line's", s[1])?;
+        at_least(self.at_least_told(s[0]), "the F line's", s[1])?;
+        if let Some(frames) = self.held.take().filter(|frames| *frames != s[1]) {
+            return Err(format!("{}; expected {frames}, by the F lines of the next second", plural(s[1], "frame")));
+        }
         self.filed += s[1];
         self.seconds.push(s);
         Ok(())
@@ -799,7 +849,7 @@ impl Page<'_> {
         if self.listing.levels.len() + ALWAYS < self.listing.groups {
             notes.push(("", "Tandem levels: in the order of their numbers, the lowest first. A listing does not tell the numbers; an explanation may.".into()));
         }
-        if self.listing.told > 0 {
+        if self.listing.told.second > 0 {
             notes.push(("", "With the figures of a column: the frames in which a fault cause begins (+) or ends (-).".into()));
         }
         notes.extend(self.end_notes());

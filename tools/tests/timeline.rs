@@ -322,12 +322,14 @@ fn mistakes_tell_the_line_and_what_was_expected() {
         ("S 2 1 1 0 0 0 0 0 0 0 0 0 0 2 0 0 0 0 0 0", "2 blocks; expected at most 1, the second's frames"),
         ("S 2 0 0 0 0 0 0 0 0 0 0 0 0 0 0 0 0 0 0 2", "2 for a defect second; expected 0 or 1"),
         ("F 2 1", "2 numbers; expected 3"),
-        ("F 1 2 2 +IF", "second 1; expected 2"),
-        ("F 2 0 2 +IF", "frame 0; expected 1 to 400,000"),
-        ("F 2 3 3 +IF", "frame 3 of the trace; expected 5"),
-        ("F 2 3 5", "\"\" is not a change; expected +NAME, -NAME, head= or a trace"),
-        ("F 2 3 5 +<b>", "\"+<b>\" is not a change; expected +NAME, -NAME, head= or a trace"),
-        ("F 2 3 5 +IF IM", "\"IM\" is not a change; expected +NAME, -NAME, head= or a trace"),
+        ("F 1 2 2 +IF", "second 1; expected 3"),
+        ("F 2 1 3 +IF", "second 2; expected 3"),
+        ("F 3 0 2 +IF", "frame 0; expected 1 to 400,000"),
+        ("F 3 3 4 +IF", "frame 4 of the trace; expected 5 to 400005"),
+        ("F 3 3 400006 +IF", "frame 400006 of the trace; expected 5 to 400005"),
+        ("F 3 3 5", "\"\" is not a change; expected +NAME, -NAME, head= or a trace"),
+        ("F 3 3 5 +<b>", "\"+<b>\" is not a change; expected +NAME, -NAME, head= or a trace"),
+        ("F 3 3 5 +IF IM", "\"IM\" is not a change; expected +NAME, -NAME, head= or a trace"),
         ("R 20 5", "refusal 20; expected 1 to 19"),
         ("R 14", "1 number; expected 2"),
         ("E 2 2", "2 marks; expected 1, the S lines"),
@@ -339,10 +341,26 @@ fn mistakes_tell_the_line_and_what_was_expected() {
     assert_eq!(read(&format!("{good}R 2 5\n{good}E 1 2\n")).unwrap_err(), "line 3: \"S\" begins the line; expected E after R");
     assert_eq!(read(&format!("{good}E 1 2\nE 1 2\n")).unwrap_err(), "line 3: \"E\" begins the line; expected nothing after E");
     assert_eq!(read("").unwrap_err(), "line 1: the listing ends; expected E");
-    let explained = |after: &str| read(&format!("{good}F 2 3 5 +IF\n{after}\n")).unwrap_err();
-    assert_eq!(explained("F 2 3 5 -IF"), "line 3: frame 3; expected 4 to 400,000");
-    assert_eq!(explained("S 2 2 2 0 0 0 0 0 0 0 0 0 0 0 0 0 0 0 0 0"), "line 3: 2 frames; expected at least 3, the F line's");
-    assert_eq!(explained("E 1 4"), "line 3: 4 frames; expected at least 5, the F line's");
+    // An explanation: after S 1 the open second is 3, and second 2 has 7 frames by its F lines.
+    let explained = |after: &str| read(&format!("{good}F 3 3 12 +IF\n{after}\n")).unwrap_err();
+    assert_eq!(explained("F 3 3 12 -IF"), "line 3: frame 3; expected 4 to 400,000");
+    assert_eq!(explained("F 3 4 14 -IF"), "line 3: frame 14 of the trace; expected 13");
+    assert_eq!(explained("F 4 1 15 -IF"), "line 3: second 4; expected 3");
+    let zeros = "0 0 0 0 0 0 0 0 0 0 0 0 0 0 0 0 0";
+    let wrong = "8 frames; expected 7, by the F lines of the next second";
+    assert_eq!(explained(&format!("S 2 8 8 {zeros}")), format!("line 3: {wrong}"));
+    let both = format!("S 2 7 7 {zeros}\nS 3 2 2 {zeros}");
+    assert_eq!(explained(&both), "line 4: 2 frames; expected at least 3, the F line's");
+    assert_eq!(explained(&format!("S 2 7 7 {zeros}\nF 4 1 12 +IM")), "line 4: frame 12 of the trace; expected 13 to 400010");
+    assert_eq!(explained(&format!("S 2 7 7 {zeros}\nE 2 11")), "line 4: 11 frames; expected at least 12, the F line's");
+    assert_eq!(explained("E 1 12"), "line 3: no S line of second 2; expected one, as an F line is of second 3");
+    assert_eq!(explained("R 15 9\nE 1 12"), "line 4: no S line of second 2; expected one, as an F line is of second 3");
+    // Before the first S line the open second is 1 or 2.
+    assert_eq!(read("F 3 1 1 +IF").unwrap_err(), "line 1: second 3; expected 1 or 2");
+    assert_eq!(read("F 0 1 1 +IF").unwrap_err(), "line 1: second 0; expected 1 or 2");
+    assert_eq!(read("F 1 2 3 +IF").unwrap_err(), "line 1: frame 3 of the trace; expected 2");
+    assert_eq!(read("F 1 2 2 +IF\nF 2 1 2 +IM").unwrap_err(), "line 2: frame 2 of the trace; expected 3 to 400001");
+    assert_eq!(read("F 2 1 2 +IF\nF 1 3 3 +IM").unwrap_err(), "line 2: second 1; expected 2");
     let junk = format!("{}\n", "\u{fffd}".repeat(1_000));
     assert_eq!(read(&junk).unwrap_err(), format!("line 1: \"{}\"... begins the line; expected S, F, R or E", ".".repeat(60)));
 }
@@ -367,13 +385,16 @@ fn an_explanation_has_the_picture_of_its_listing() {
     assert!(figures("second 2\n").ends_with("; path far blocks: 0"));
 }
 
-/// So many seconds of nine frames, with an F line of the changes in frame 5 of each.
+/// So many seconds of nine frames, with an F line of the changes in frame 5 of each; the S line of a second stands behind the F line of the next.
 fn explanation(seconds: usize, changes: &str) -> String {
     let mut text = String::new();
     for number in 1..=seconds {
-        text += &format!("F {number} 5 {} {changes}\n{}", 9 * (number - 1) + 5, second(number, 9, (0, 0), [0; 8]));
+        text += &format!("F {number} 5 {} {changes}\n", 9 * (number - 1) + 5);
+        if number > 1 {
+            text += &second(number - 1, 9, (0, 0), [0; 8]);
+        }
     }
-    format!("{text}E {seconds} {}\n", 9 * seconds)
+    format!("{text}{}E {seconds} {}\n", second(seconds, 9, (0, 0), [0; 8]), 9 * seconds)
 }
 
 /// Two seconds with the groups of two levels, and an F line of the changes in the first.

@@ -1,57 +1,58 @@
 -- Demand 3 on bytes. Assumes nothing.
-use mathlib.Core.Path.{_≡_, refl, sym, ap, _∙_, subst}
-use mathlib.Core.Bool.{Bool, true, false, not, _&&_, _||_}
+use mathlib.Core.Path.{_≡_, refl, sym, ap, _∙_, subst, subst⁻¹}
+use mathlib.Core.Bool.{Bool, true, false, cond, not, _&&_}
 use mathlib.Core.List.{List, [], _∷_, _++_}
 use Prim.Native.Nat.{ℕ, zero, suc, _+_, _-_, _*_, _≤_, _<_}
 use native.Mathlib.Nat.{not-suc-le-zero, le-of-suc-le-suc}
 use native.Mathlib.Omega.{arith}
-use lib.Dec.{lit<, eqb}
-use lib.ListN.{length, getD, drop, length-append, List·getD-append}
-use lib.Seq.{getD-drop, getD-take}
+use lib.Dec.{lit<, eqb, ltb}
+use lib.ListN.{length, getD, take, drop, replicate, length-map, length-drop}
+use lib.Seq.{getD-drop, getD-take, length-take-le}
+use borrow.Author.Tests.{eqb-false}
 use Rattle.answer.specs.Bits.{flag}
-use Rattle.answer.proofs.Bits.{flag-most}
-use Rattle.answer.proofs.Cond.{by-cond}
 use Rattle.words.specs.Words.{flat}
 use Rattle.words.proofs.Words.{length-flat, word-in-flat}
 use Rattle.codec.specs.Over.{poured}
 use Rattle.codec.proofs.Overs.{poured-all}
+use Rattle.ranges.proofs.Below.{below-long, below-all}
 use Rattle.causes.specs.Causes.{reportOf, headOf, timActs}
 use Rattle.causes.specs.OneCause.{sectionTim, pathTim, OneCause}
 use Rattle.causes.proofs.OneCause.{one-cause}
 use Rattle.causes.specs.declared.Standing.{Standing}
 use Rattle.causes.specs.declared.Report.{Report}
 use Rattle.frame.specs.Layers.{standingOf, sectionStands, pathStands}
-use Rattle.second.specs.Second.{closedOf, discardOf, figuresOf}
-use Rattle.second.specs.declared.Second.{Second}
-use Rattle.second.specs.declared.Near.{Near}
-use Rattle.second.specs.declared.Far.{Far}
+use Rattle.second.specs.Second.{figuresOf}
 use Rattle.settings.specs.declared.Settings.{Settings}
-use Rattle.supervisor.specs.Supervisor.{freshOf, standsAfter, frameOf, nextSecond, markOf}
+use Rattle.supervisor.specs.Supervisor.{freshOf, standsAfter, frameOf, nextSecond}
 use Rattle.supervisor.specs.declared.Supervisor.{Supervisor}
-use Rattle.history.specs.History.{Frame, Event, frame, mark, standsAt, framed, eventOf, after, reached, refusalOf}
-use Rattle.history.specs.Ranges.{AllAtMost, SecondIn, Ranged}
-use Rattle.history.specs.Ledger.{sumOf, Says, Demand3}
-use Rattle.history.proofs.History.{seconds-left}
-use Rattle.history.proofs.Ledger.{mark-figures, demand-3}
+use Rattle.history.specs.History.{Frame, Event, frame, mark, standsAt, framed, eventOf, after, refusalOf}
+use Rattle.history.specs.Ledger.{sumOf, marks as marksAmong}
+use Rattle.history.specs.Ranges.{AllAtMost}
 use Rattle.history.proofs.Ranges.{most-at}
-use Rattle.tandem.specs.Levels.{fourOf, levelFigures, levelAt}
+use Rattle.page.specs.Page.{answer}
+use Rattle.tandem.specs.Levels.{fourOf, levelAt}
 use Rattle.tandem.specs.Tandem.{freshTandem, markedOf}
-use Rattle.tandem.specs.declared.Level.{Level}
 use Rattle.tandem.specs.declared.Tandem.{Tandem}
-use Rattle.watch.specs.Watch.{refusalAt, groupAt}
-use Rattle.watch.proofs.Silent.{mark-refusal}
+use Rattle.watch.specs.Watch.{marks, refusalAt, groupAt}
 use Rattle.watch.proofs.Alone.{plain-accepts, own-figures}
-use Rattle.watch.proofs.Calls.{plain-of}
-use Rattle.bays.specs.Ranges.{TandemIn}
+use Rattle.late.specs.Late.{sectionErred, levelErred, levelsErred, nextReport, pendingOf, lateMarked}
+use Rattle.late.specs.declared.Late.{Late}
+use Rattle.reports.specs.Reports.{LineDemand3}
+use Rattle.reports.proofs.Lists.{marks-append}
+use Rattle.reports.proofs.Reports.{reported}
+use Rattle.slot.specs.Slot.{slotGreatest, figuresRanged}
+use Rattle.slots.specs.Ranges.{LateIn}
+use Rattle.slots.proofs.Kept.{voided-ranged}
 use Rattle.word.specs.Report.{reportWord}
 use Rattle.word.specs.Table.{reportTable, bitsOf, ReportBack}
 use Rattle.word.proofs.Fields.{row-read}
-use borrow.Author.Tests.{lt-ltb}
-use Rattle.card.specs.Calls.{figuresAt, freshSup}
-use Rattle.calls.specs.History.{otn-step, otn-mark, actRefusal, actAnswer, actFills, bytesAfter, refusedOn, answerOn, fillOn, Course, eventsAt, tandemAt, courseOf, FromFresh}
+use Rattle.card.specs.Calls.{unless, freshSup}
+use Rattle.calls.specs.History.{otn-step, otn-mark, otn-pending, actRefusal, actAnswer, actFills, bytesAfter, refusedOn, answerOn, Course, eventsAt, tandemAt, supAt, courseOf, FromFresh}
+use Rattle.calls.specs.ByPage.{pageOf, markRefused, closedBy, bitBy, nextReported, pendingNow, ByPage}
 use Rattle.calls.specs.Words.{EveryRecordBack, EveryLevelWords}
-use Rattle.calls.specs.Demand.{sectionTimBit, pathTimBit, ReportedCause, figureIn, RecordedSecond, lineAt, EveryByteDemand3}
-use Rattle.calls.proofs.Histories.{report-is, report-of, kept-from, from-fresh}
+use Rattle.calls.specs.Demand.{sectionTimBit, pathTimBit, ReportedCause, figureIn, RecordedSecond, EveryByteDemand3}
+use Rattle.calls.proofs.Histories.{report-is, report-of, taken-more, kept-from, from-fresh, base-at}
+use Rattle.calls.proofs.ByPage.{mark-taken, next-is, pending-now, by-page}
 
 -- one bit that holds a Bool
 bit-is : (n : ℕ) (x : Bool) → n ≡ flag x → eqb n 1 ≡ x
@@ -64,10 +65,10 @@ acting true free disabled = refl
 acting false free disabled = refl
 
 -- the report of an accepted frame, by what stands
-reported : (p : Settings) (d : Standing) (sm pm : ℕ) → d .section .disabled ≡ p .section .disabled → d .path .disabled ≡ p .path .disabled
+caused : (p : Settings) (d : Standing) (sm pm : ℕ) → d .section .disabled ≡ p .section .disabled → d .path .disabled ≡ p .path .disabled
     → ReportBack d sm pm → ReportedCause p (reportWord (reportOf d sm pm))
 unfolding reportOf timActs
-reported p d sm pm sdis pdis back =
+caused p d sm pm sdis pdis back =
     let w : ℕ = reportWord (reportOf d sm pm) in
     let r : Report = reportOf d sm pm in
     let one : OneCause d = one-cause d in
@@ -100,54 +101,16 @@ settings-after s [] = refl
 settings-after s (frame f ∷ h) = settings-after (framed s f) h
 settings-after s (mark ∷ h) = settings-after (nextSecond s) h
 
--- line, section and path after a course
-pub base-at : (b : List ℕ) (c : Course) → FromFresh b c → tandemAt c .base ≡ reached (c .settings) (eventsAt c)
-base-at b c on = plain-of (freshTandem (freshOf (c .settings))) (c .calls) (on .taken) .base
-
 reported-at : (b : List ℕ) (c : Course) → FromFresh b c → (f : Frame) → refusalOf (tandemAt c .base) (frame f) ≡ 0
     → ReportedCause (c .settings) (reportWord (reportOf (standsAt (tandemAt c .base) f) (f .sm) (f .pm)))
 unfolding standsAfter standingOf sectionStands pathStands
 reported-at b c on f z =
     let same = ap (λ (s : Supervisor). s .settings) (base-at b c on) ∙ settings-after (freshOf (c .settings)) (eventsAt c) in
-    reported (c .settings) (standsAt (tandemAt c .base) f) (f .sm) (f .pm)
+    caused (c .settings) (standsAt (tandemAt c .base) f) (f .sm) (f .pm)
     (ap (λ (p : Settings). p .section .disabled) same) (ap (λ (p : Settings). p .path .disabled) same)
     (report-of (tandemAt c .base) f z)
 
--- every figure of a second that a mark may close fits its word
-figures-fit : (s : Supervisor) → Ranged s → s .seconds < 4294967295 → AllAtMost 4294967295 (figuresAt s)
-unfolding closedOf discardOf
-figures-fit s r h =
-    let c : Second = s .second in
-    let i : SecondIn c = r .second in
-    let m : (k : ℕ) → getD (c .heads) k 0 ≤ 400000 = λ k. most-at 400000 (c .heads) k (i .heads) in
-    let near : closedOf c .section .near .0 ≤ 400000 = by-cond (λ (n : Near). n .0 ≤ 400000) (c .iae) (λ _. omega arith) (λ _. i .section .near) in
-    let far : closedOf c .section .far .0 ≤ 400000 = by-cond (λ (n : Far). n .0 ≤ 400000) (c .iae || c .biae) (λ _. omega arith) (λ _. i .section .far) in
-    let d : (x : Bool) → flag x ≤ 1 = flag-most in
-    omega (
-      arith,
-      h,
-      i .frames,
-      m 0,
-      m 1,
-      m 2,
-      m 3,
-      m 4,
-      m 5,
-      m 6,
-      m 7,
-      m 8,
-      m 9,
-      near,
-      far,
-      d (closedOf c .section .neards),
-      d (closedOf c .section .fards),
-      i .path .near,
-      i .path .far,
-      d (c .path .neards),
-      d (c .path .fards),
-    )
-
--- the numbers of a list, one by one
+-- the ten heads one by one
 sumTo : ℕ → (ℕ → ℕ) → ℕ
 sumTo zero f = 0
 sumTo (suc n) f = f 0 + sumTo n (λ k. f (suc k))
@@ -157,21 +120,40 @@ unfolding sumTo
 sum-each [] = refl
 sum-each (x ∷ l) = ap (λ (n : ℕ). x + n) (sum-each l)
 
--- the figures of a closed second, whatever record they are read from
-recorded-by : (n : ℕ) (s : Supervisor) (fs : List Frame) (c : Second) (r : List ℕ) → Says s fs c → ((i : ℕ) → i < 20 → figureIn r i ≡ getD (figuresOf n c) i 0)
-    → RecordedSecond (figuresOf n c) r
+ten : (v : List ℕ) → length v ≡ 44 → sumOf (take 10 (drop 2 v))
+    ≡ getD v 2 0 + getD v 3 0 + getD v 4 0 + getD v 5 0 + getD v 6 0 + getD v 7 0 + getD v 8 0 + getD v 9 0 + getD v 10 0 + getD v 11 0
 unfolding sumTo
-recorded-by n s fs c r y w =
-    let ten : sumOf (c .heads) ≡ sumTo 10 (λ k. getD (c .heads) k 0) = sum-each (c .heads) ∙ ap (λ (m : ℕ). sumTo m (λ k. getD (c .heads) k 0)) (y .ten) in
-    let zero-is = y .heads 0 (lit< tt) in
-    let nine-is = y .heads 9 (lit< tt) in
+ten v n =
+    let l : List ℕ = take 10 (drop 2 v) in
+    let k : length l ≡ 10 = length-take-le 10 (drop 2 v) (omega (arith, length-drop 2 v, n)) in
+    let g : (i : ℕ) → i < 10 → getD l i 0 ≡ getD v (2 + i) 0 = λ i h. getD-take 10 (drop 2 v) i 0 h ∙ getD-drop 2 v i 0 in
+    omega (
+      arith,
+      sum-each l ∙ ap (λ (m : ℕ). sumTo m (λ i. getD l i 0)) k,
+      g 0 (lit< tt),
+      g 1 (lit< tt),
+      g 2 (lit< tt),
+      g 3 (lit< tt),
+      g 4 (lit< tt),
+      g 5 (lit< tt),
+      g 6 (lit< tt),
+      g 7 (lit< tt),
+      g 8 (lit< tt),
+      g 9 (lit< tt),
+    )
+
+-- A record of 176 bytes filled with figures that fit their words: its words are they, and demand 3 is read from it.
+recorded-by : (v out : List ℕ) → length v ≡ 44 → ((i : ℕ) → getD v i 0 ≤ 4294967295) → LineDemand3 v → length out ≡ 176 → RecordedSecond v (poured out (flat v))
+recorded-by v out n f d k =
+    let all : poured out (flat v) ≡ flat v = poured-all out (flat v) (omega (arith, length-flat v, n, k)) in
+    let w : (i : ℕ) → i < 44 → figureIn (poured out (flat v)) i ≡ getD v i 0 =
+    λ i h. ap (λ (l : List ℕ). figureIn l i) all ∙ word-in-flat v i (omega (arith, f i)) (omega (arith, n, h)) in
     record {
       words = w;
       sum = omega (
         arith,
-        ten,
-        y .sum,
-        y .frames,
+        ten v n,
+        d .sum,
         w 1 (lit< tt),
         w 2 (lit< tt),
         w 3 (lit< tt),
@@ -184,93 +166,105 @@ recorded-by n s fs c r y w =
         w 10 (lit< tt),
         w 11 (lit< tt),
       );
-      near-most = omega (arith, y .near-most, zero-is, nine-is, w 2 (lit< tt), w 11 (lit< tt), w 16 (lit< tt));
-      far-most = omega (arith, y .far-most, zero-is, nine-is, w 2 (lit< tt), w 11 (lit< tt), w 17 (lit< tt));
+      near-most = omega (arith, d .near-most, w 2 (lit< tt), w 11 (lit< tt), w 16 (lit< tt));
+      far-most = omega (arith, d .far-most, w 2 (lit< tt), w 11 (lit< tt), w 17 (lit< tt));
     }
 
--- the figures of an accepted mark: the twenty, and four for each level
-four-long : (l : Level) → length (fourOf l) ≡ 4
-unfolding fourOf
-four-long l = by-cond (λ (x : List ℕ). length x ≡ 4) (l .given) (λ _. refl) (λ _. refl)
+-- a mark that answers 256 is accepted, and a second was closed before it
+told-mark : (c : Course) → unless (markRefused c) (bitBy c) (markRefused c) ≡ 256 → (markRefused c ≡ 0) × (eqb (closedBy c) 0 ≡ false)
+unfolding answer
+told-mark c e = by (ltb (marksAmong (pageOf c)) 4294967295) (eqb (closedBy c) 0) refl refl
+  where
+    by : (x y : Bool) → ltb (marksAmong (pageOf c)) 4294967295 ≡ x → eqb (closedBy c) 0 ≡ y → (markRefused c ≡ 0) × (eqb (closedBy c) 0 ≡ false)
+    by true true u v = let z : _≡_ {A = ℕ} 0 256 = rw (u, v) at e in absurd (omega arith)
+    by true false u v = (rw u, v)
+    by false y u v = let z : _≡_ {A = ℕ} 4 256 = rw u at e in absurd (omega arith)
 
-levels-long : (ls : List Level) → length (levelFigures ls) ≡ 4 * length ls
-unfolding levelFigures
-levels-long [] = refl
-levels-long (l ∷ ls) = length-append (fourOf l) (levelFigures ls) ∙ omega (arith, four-long l, levels-long ls)
+told-pending : (c : Course) → bitBy c ≡ 256 → eqb (closedBy c) 0 ≡ false
+told-pending c = by (eqb (closedBy c) 0)
+  where
+    by : (y : Bool) → _≡_ {A = ℕ} (cond y 0 256) 256 → y ≡ false
+    by true e = let z : _≡_ {A = ℕ} 0 256 = e in absurd (omega arith)
+    by false e = refl
 
-pub marked-figures : (t : Tandem) → markedOf t .refusal ≡ 0 → markedOf t .figures ≡ figuresAt (t .base) ++ levelFigures (t .levels)
-unfolding markedOf markOf
-marked-figures t e =
-    let low = lt-ltb (t .base .seconds) 4294967295 (seconds-left (t .base) (sym (mark-refusal t) ∙ e)) in
-    rw low
+-- no greatest is more than a word holds
+greatest-low : (i : ℕ) → getD slotGreatest i 0 ≤ 4294967295
+greatest-low i = most-at 4294967295 slotGreatest i all
+  where
+    four : (l : List ℕ) → AllAtMost 4294967295 l → AllAtMost 4294967295 (400000 ∷ 400000 ∷ 1 ∷ 1 ∷ l)
+    four l a = (omega arith, (omega arith, (omega arith, (omega arith, a))))
 
--- a mark after a course, and a frame after it
-module _ (b : List ℕ) (c : Course) (on : FromFresh b c) where
-  abbrev t : Tandem
-  t = tandemAt c
+    counts : (n : ℕ) (l : List ℕ) → AllAtMost 4294967295 l → AllAtMost 4294967295 (replicate n 400000 ++ l)
+    counts zero l a = a
+    counts (suc n) l a = (omega arith, counts n l a)
 
-  abbrev s : Supervisor
-  s = reached (c .settings) (eventsAt c)
+    all : AllAtMost 4294967295 slotGreatest
+    all = counts 11 (drop 11 slotGreatest) (four (drop 15 slotGreatest) (four (drop 19 slotGreatest) (four (drop 23 slotGreatest) (four (drop 27 slotGreatest) (four (drop 31 slotGreatest) (four (drop 35 slotGreatest) (four (drop 39 slotGreatest) (four [] tt))))))))
 
-  module _ (out : List ℕ) (e : actRefusal b (otn-mark out) ≡ 0) where
-    taken : markedOf t .refusal ≡ 0
-    unfolding refusedOn
-    taken = sym (on .refuses (otn-mark out)) ∙ e
+-- every figure of the pending second, and as it is reported, fits its word
+module _ (s : Late) (r : LateIn s) where
+  fits : (v : List ℕ) → figuresRanged v ≡ true → (length (s .tandem .base .seconds ∷ v) ≡ 44) × ((i : ℕ) → getD (s .tandem .base .seconds ∷ v) i 0 ≤ 4294967295)
+  fits v e = (ap suc (below-long slotGreatest v e), most)
+    where
+      most : (i : ℕ) → getD (s .tandem .base .seconds ∷ v) i 0 ≤ 4294967295
+      most zero = r .tandem .base .seconds
+      most (suc i) = omega (arith, below-all slotGreatest v e i, greatest-low i)
 
-    taken-plain : refusalOf s mark ≡ 0
-    taken-plain = ap (λ (x : Supervisor). refusalOf x mark) (sym (base-at b c on)) ∙ sym (mark-refusal t) ∙ taken
+  next-figures : markedOf (s .tandem) .refusal ≡ 0 → lateMarked s .figures ≡ nextReport s
+  unfolding lateMarked
+  next-figures e = rw e
 
-    abbrev all : List ℕ
-    all = figuresAt s ++ levelFigures (t .levels)
+  next-fits : (length (nextReport s) ≡ 44) × ((i : ℕ) → getD (nextReport s) i 0 ≤ 4294967295)
+  next-fits =
+      fits _ (voided-ranged (sectionErred (s .tandem)) (levelsErred (s .tandem)) (s .pending) (length-map (s .tandem .levels) levelErred ∙ r .tandem .six) (r .pending))
 
-    filled : actFills b (otn-mark out) ≡ poured out (flat all)
-    unfolding fillOn
-    filled =
-        on .fills (otn-mark out)
-        ∙ rw taken (ap (λ (l : List ℕ). poured out (flat l))
-        (marked-figures t taken ∙ ap (λ (x : Supervisor). figuresAt x ++ levelFigures (t .levels)) (base-at b c on)))
+  pending-fits : (length (pendingOf s .figures) ≡ 44) × ((i : ℕ) → getD (pendingOf s .figures) i 0 ≤ 4294967295)
+  unfolding pendingOf
+  pending-fits = fits (s .pending) (r .pending)
 
-    word-filled : TandemIn t → length out ≡ 176 → (i : ℕ) → i < 20 → figureIn (actFills b (otn-mark out)) i ≡ getD (figuresAt s) i 0
-    word-filled r n i h =
-        let plain : Ranged s = subst Ranged (base-at b c on) (r .base) in
-        let m : getD (figuresAt s) i 0 ≤ 4294967295 = most-at 4294967295 (figuresAt s) i (figures-fit s plain (seconds-left s taken-plain)) in
-        let first : getD all i 0 ≡ getD (figuresAt s) i 0 = List·getD-append (figuresAt s) (levelFigures (t .levels)) 0 i h in
-        let long : length all ≡ 44 = length-append (figuresAt s) (levelFigures (t .levels)) ∙ omega (arith, levels-long (t .levels), r .six) in
-        let fits : length (flat all) ≡ length out = omega (arith, length-flat all, long, n) in
-        ap (λ (l : List ℕ). figureIn l i) (filled ∙ poured-all out (flat all) fits)
-        ∙ word-in-flat all i (omega (arith, first, m)) (omega (arith, long, h))
-        ∙ first
+-- the second told by the next mark, the pending one, and a frame
+module _ (b : List ℕ) (c : Course) (on : FromFresh b c) (r : LateIn (supAt c)) (says : ByPage b c) where
+  some-closed : eqb (closedBy c) 0 ≡ false → 1 ≤ closedBy c
+  some-closed e = let h = eqb-false (closedBy c) 0 e in omega (arith, h)
 
-    module _ (d : Demand3 (c .settings) (eventsAt c)) where
-      figures-are : figuresAt s ≡ lineAt c (d .since)
-      figures-are = sym (mark-figures s taken-plain) ∙ d .figures taken-plain
+  next-demand : (out : List ℕ) → actAnswer b (otn-mark out) ≡ 256 → length out ≡ 176 → RecordedSecond (nextReported c) (actFills b (otn-mark out))
+  next-demand out e k =
+      let m = told-mark c (sym (says .marks out) ∙ e) in
+      let taken : markedOf (tandemAt c) .refusal ≡ 0 = mark-taken b c on (m .0) in
+      let f : actFills b (otn-mark out) ≡ poured out (flat (nextReported c)) = says .records out ∙ rw (m .0, m .1) in
+      let is : nextReport (supAt c) ≡ nextReported c =
+      sym (next-figures (supAt c) r (ap (λ (x : Tandem). markedOf x .refusal) (on .same) ∙ taken)) ∙ next-is b c on (m .0) (m .1) in
+      let fit = subst (λ (v : List ℕ). (length v ≡ 44) × ((i : ℕ) → getD v i 0 ≤ 4294967295)) is (next-fits (supAt c) r) in
+      let more = taken-more (freshTandem (freshOf (c .settings))) (c .calls) marks (on .taken) taken in
+      let count = marks-append (c .calls) (marks ∷ []) in
+      let d = reported (c .settings) (on .settings) (c .calls ++ (marks ∷ [])) more .demand (closedBy c) (some-closed (m .1)) (omega (arith, count)) in
+      rw f (recorded-by (nextReported c) out (fit .0) (fit .1) d k)
 
-      line-filled : actFills b (otn-mark out) ≡ poured out (flat (lineAt c (d .since) ++ levelFigures (t .levels)))
-      line-filled = filled ∙ ap (λ (l : List ℕ). poured out (flat (l ++ levelFigures (t .levels)))) figures-are
-
-      mark-records : TandemIn t → length out ≡ 176 → RecordedSecond (lineAt c (d .since)) (actFills b (otn-mark out))
-      mark-records r n =
-          subst (λ (l : List ℕ). RecordedSecond l (actFills b (otn-mark out))) figures-are
-          (recorded-by _ _ _ _ (actFills b (otn-mark out)) (d .says) (word-filled r n))
+  pending-demand : (out : List ℕ) → actAnswer b (otn-pending out) ≡ 256 → length out ≡ 176 → RecordedSecond (pendingNow c) (actFills b (otn-pending out))
+  pending-demand out e k =
+      let m = told-pending c (sym (says .pendings out) ∙ e) in
+      let f : actFills b (otn-pending out) ≡ poured out (flat (pendingNow c)) = says .pendingFills out ∙ rw m in
+      let fit = subst (λ (v : List ℕ). (length v ≡ 44) × ((i : ℕ) → getD v i 0 ≤ 4294967295)) (pending-now b c on m) (pending-fits (supAt c) r) in
+      let d = reported (c .settings) (on .settings) (c .calls) (on .taken) .demand (closedBy c) (some-closed m) (omega arith) in
+      rw f (recorded-by (pendingNow c) out (fit .0) (fit .1) d k)
 
   frame-reports : (f : Frame) (counts : List ℕ) → actRefusal b (otn-step f counts) ≡ 0 → ReportedCause (c .settings) (actAnswer b (otn-step f counts))
   unfolding refusedOn answerOn refusalOf
   frame-reports f counts e =
+      let t : Tandem = supAt c .tandem in
       let z : refusalAt t f counts ≡ 0 = sym (on .refuses (otn-step f counts)) ∙ e in
-      rw (on .answers (otn-step f counts), z, report-is t f counts z) (reported-at b c on f (plain-accepts t f counts z))
+      rw (on .answers (otn-step f counts), z, report-is t f counts z)
+      (subst⁻¹ (λ (x : Tandem). ReportedCause (c .settings) (reportWord (reportOf (standsAt (x .base) f) (f .sm) (f .pm)))) (on .same)
+      (reported-at b c on f (plain-accepts (tandemAt c) f counts (ap (λ (x : Tandem). refusalAt x f counts) (sym (on .same)) ∙ z))))
 
 pub byte-demand-3 : EveryByteDemand3
 byte-demand-3 sup p uses e a =
     let b : List ℕ = bytesAfter (freshSup sup p) uses in
     let c : Course = courseOf p uses in
     let on : FromFresh b c = from-fresh sup p uses e a in
-    let d : Demand3 (c .settings) (eventsAt c) = demand-3 (c .settings) (eventsAt c) (on .accepted) in
-    record {
-      since = d .since;
-      line = λ out z. line-filled b c on out z d;
-      recorded = λ out z n. mark-records b c on out z d (kept-from sup p uses e a .good .ranged) n;
-      causes = frame-reports b c on;
-    }
+    let r : LateIn (supAt c) = kept-from sup p uses e a .good .ranged in
+    let says : ByPage b c = by-page sup p uses e a in
+    record { recorded = next-demand b c on r says; pending = pending-demand b c on r says; causes = frame-reports b c on r says }
 
 -- n values of a function in a row, before others
 abbrev row : ℕ → (ℕ → ℕ) → List ℕ → List ℕ

@@ -1,20 +1,18 @@
--- Demand 3 as C has it: of the record that otn_mark fills and of the report that otn_step answers. Assumes nothing.
+-- Demand 3 as C has it: of the records that otn_mark and otn_pending fill and of the report that otn_step answers. Assumes nothing.
 use mathlib.Core.Path.{_≡_}
 use mathlib.Core.Bool.{Bool, not, _&&_}
-use mathlib.Core.List.{List, _++_}
+use mathlib.Core.List.{List}
 use Prim.Native.Nat.{ℕ, _+_, _*_, _≤_, _<_}
 use lib.Dec.{eqb}
 use lib.ListN.{length, getD}
 use Rattle.answer.specs.Bits.{flag}
-use Rattle.words.specs.Words.{flat, wordAt}
-use Rattle.codec.specs.Over.{poured}
+use Rattle.words.specs.Words.{wordAt}
 use Rattle.settings.specs.declared.Settings.{Settings}
-use Rattle.history.specs.History.{Frame, reached}
-use Rattle.history.specs.Ledger.{Since, lineFigures, marks}
-use Rattle.tandem.specs.Levels.{levelFigures}
+use Rattle.history.specs.History.{Frame}
 use Rattle.word.specs.Table.{bitsOf}
 use Rattle.card.specs.Calls.{Provision, freshRefusal, freshSup}
-use Rattle.calls.specs.History.{otn-step, otn-mark, actRefusal, actAnswer, actFills, Use, bytesAfter, Course, eventsAt, tandemAt, courseOf, AllBytes}
+use Rattle.calls.specs.History.{otn-step, otn-mark, otn-pending, actRefusal, actAnswer, actFills, Use, bytesAfter, Course, courseOf, AllBytes}
+use Rattle.calls.specs.ByPage.{nextReported, pendingNow}
 
 -- a bit of a report, and its head, as C reads them (otn_report_bit, otn_head)
 abbrev pub reportBit : ℕ → ℕ → Bool
@@ -51,26 +49,20 @@ pub record ReportedCause (p : Settings) (r : ℕ) : Type 0 where
 abbrev pub figureIn : List ℕ → ℕ → ℕ
 figureIn r i = wordAt r (i * 4)
 
--- A record that a mark has filled: its first twenty figures are those of the line. The frames under the ten heads (OTN_UNDER) add up to the frames
--- (OTN_FRAMES); neither of the path's block counts (OTN_PATH_NEAR, OTN_PATH_FAR) is more than the frames under heads 0 and 9.
-pub record RecordedSecond (line r : List ℕ) : Type 0 where
-  pub words : (i : ℕ) → i < 20 → figureIn r i ≡ getD line i 0
+-- A record filled with a second's figures: its words are they. The frames under the ten heads (OTN_UNDER) add up to the frames (OTN_FRAMES); neither of the
+-- path's block counts (OTN_PATH_NEAR, OTN_PATH_FAR) is more than the frames under heads 0 and 9.
+pub record RecordedSecond (figures r : List ℕ) : Type 0 where
+  pub words : (i : ℕ) → i < 44 → figureIn r i ≡ getD figures i 0
   pub sum : figureIn r 2 + figureIn r 3 + figureIn r 4 + figureIn r 5 + figureIn r 6
       + figureIn r 7 + figureIn r 8 + figureIn r 9 + figureIn r 10 + figureIn r 11 ≡ figureIn r 1
   pub near-most : figureIn r 16 ≤ figureIn r 2 + figureIn r 11
   pub far-most : figureIn r 17 ≤ figureIn r 2 + figureIn r 11
 
--- the twenty figures of the second that a mark after the course closes: its number is one more than the marks, its frames are those since
-abbrev pub lineAt : (c : Course) → Since (eventsAt c) → List ℕ
-lineAt c since = lineFigures (marks (eventsAt c) + 1) (reached (c .settings) (since .before)) (since .frames)
-
--- Demand 3 on bytes: what holds of the next mark and of the next frame on the supervisor's bytes b after uses whose course is c. Behind the twenty figures
--- stand the levels'; "demand 3's heads and failing causes stay those of line, section and path" (document 02).
+-- Demand 3 on bytes: what holds of the next mark, of the pending second and of the next frame on the supervisor's bytes b after uses whose course is c. "demand 3
+-- speaks of each reported second"; its "heads and failing causes stay those of line, section and path" (document 02).
 pub record ByteDemand3 (b : List ℕ) (c : Course) : Type 0 where
-  pub since : Since (eventsAt c)
-  pub line : (out : List ℕ) → actRefusal b (otn-mark out) ≡ 0
-      → actFills b (otn-mark out) ≡ poured out (flat (lineAt c since ++ levelFigures (tandemAt c .levels)))
-  pub recorded : (out : List ℕ) → actRefusal b (otn-mark out) ≡ 0 → length out ≡ 176 → RecordedSecond (lineAt c since) (actFills b (otn-mark out))
+  pub recorded : (out : List ℕ) → actAnswer b (otn-mark out) ≡ 256 → length out ≡ 176 → RecordedSecond (nextReported c) (actFills b (otn-mark out))
+  pub pending : (out : List ℕ) → actAnswer b (otn-pending out) ≡ 256 → length out ≡ 176 → RecordedSecond (pendingNow c) (actFills b (otn-pending out))
   pub causes : (f : Frame) (counts : List ℕ) → actRefusal b (otn-step f counts) ≡ 0 → ReportedCause (c .settings) (actAnswer b (otn-step f counts))
 
 -- It holds of every list of uses after an accepted otn_fresh on any bytes.

@@ -1,6 +1,6 @@
--- Histories of calls from C: any of the eight calls, in any order, with any bytes, numbers and buffers. Assumes nothing.
+-- Histories of calls from C: any of the nine calls, in any order, with any bytes, numbers and buffers. Assumes nothing.
 use mathlib.Core.Path.{_≡_}
-use mathlib.Core.Bool.{_&&_}
+use mathlib.Core.Bool.{Bool, cond, _&&_}
 use mathlib.Core.List.{List, [], _∷_, _++_}
 use Prim.Native.Nat.{ℕ}
 use lib.Dec.{eqb, leb}
@@ -16,13 +16,16 @@ use Rattle.history.specs.History.{Frame, Event, Accepted}
 use Rattle.history.specs.Ranges.{IsBytes}
 use Rattle.tandem.specs.Levels.{levelAt}
 use Rattle.tandem.specs.Tandem.{freshTandem, giveRefusal, markedOf, levelReport, levelTraced}
+use Rattle.late.specs.Late.{pendingOf, lateMarked}
+use Rattle.late.specs.declared.Late.{Late}
+use Rattle.reports.specs.Reports.{lateAt}
 use Rattle.tandem.specs.declared.Tandem.{Tandem}
 use Rattle.watch.specs.Watch.{LevelCall, gives, frames, marks, refusalAt, framedAt, AllTaken, eventsAmong}
 use Rattle.sheet.specs.Sheet.{reached}
-use Rattle.bays.specs.Image.{tandemBytes}
+use Rattle.slots.specs.Image.{lateBytes}
 use Rattle.word.specs.Report.{reportWord}
 use Rattle.word.specs.Table.{bitsOf}
-use Rattle.card.specs.Calls.{unless, Provision, provisionRefusal, settingsBy, freshRefusal, freshSup, levelRefusal, levelSup, callRefusal, callAnswer, callSup, markRefusal, markSup, markRecord, traceRefused, traceOut, toldRefusal, toldWord, toldAnswer, levelTraceRefused, levelTraceOut}
+use Rattle.card.specs.Calls.{unless, Provision, provisionRefusal, settingsBy, freshRefusal, freshSup, levelRefusal, levelSup, callRefusal, callAnswer, callSup, toldBit, markRefusal, markAnswer, markSup, markRecord, pendingRefusal, pendingAnswer, pendingRecord, traceRefused, traceOut, toldRefusal, toldWord, toldAnswer, levelTraceRefused, levelTraceOut}
 
 -- An act of C, named as the call: with a level's request and names, a frame and its six counts (otn_step has six counts 0), a layer or a level, and the
 -- record or the buffer that the call is lent to fill.
@@ -31,6 +34,7 @@ pub data Act : Type 0 where
   otn-level : ℕ → Request → List ℕ → Act
   otn-step : Frame → List ℕ → Act
   otn-mark : List ℕ → Act
+  otn-pending : List ℕ → Act
   otn-trace : ℕ → List ℕ → Act
   otn-level-report : ℕ → Act
   otn-level-trace : ℕ → List ℕ → Act
@@ -42,6 +46,7 @@ actRefusal sup (otn-fresh p) = freshRefusal sup p
 actRefusal sup (otn-level n r names) = levelRefusal sup n r names
 actRefusal sup (otn-step f counts) = callRefusal sup (f .overhead) (f .flags) (f .sm) (f .pm) counts
 actRefusal sup (otn-mark out) = markRefusal sup
+actRefusal sup (otn-pending out) = pendingRefusal sup
 actRefusal sup (otn-trace layer out) = traceRefused sup layer out
 actRefusal sup (otn-level-report n) = toldRefusal sup n
 actRefusal sup (otn-level-trace n out) = levelTraceRefused sup n out
@@ -50,7 +55,8 @@ unfoldable pub actAnswer : List ℕ → Act → ℕ
 actAnswer sup (otn-fresh p) = freshRefusal sup p
 actAnswer sup (otn-level n r names) = levelRefusal sup n r names
 actAnswer sup (otn-step f counts) = callAnswer sup (f .overhead) (f .flags) (f .sm) (f .pm) counts
-actAnswer sup (otn-mark out) = markRefusal sup
+actAnswer sup (otn-mark out) = markAnswer sup
+actAnswer sup (otn-pending out) = pendingAnswer sup
 actAnswer sup (otn-trace layer out) = traceRefused sup layer out
 actAnswer sup (otn-level-report n) = toldAnswer sup n
 actAnswer sup (otn-level-trace n out) = levelTraceRefused sup n out
@@ -60,6 +66,7 @@ actFills sup (otn-fresh p) = []
 actFills sup (otn-level n r names) = []
 actFills sup (otn-step f counts) = []
 actFills sup (otn-mark out) = markRecord sup out
+actFills sup (otn-pending out) = pendingRecord sup out
 actFills sup (otn-trace layer out) = traceOut sup layer out
 actFills sup (otn-level-report n) = []
 actFills sup (otn-level-trace n out) = levelTraceOut sup n out
@@ -69,6 +76,7 @@ actBytes sup (otn-fresh p) = freshSup sup p
 actBytes sup (otn-level n r names) = levelSup sup n r names
 actBytes sup (otn-step f counts) = callSup sup (f .overhead) (f .flags) (f .sm) (f .pm) counts
 actBytes sup (otn-mark out) = markSup sup
+actBytes sup (otn-pending out) = sup
 actBytes sup (otn-trace layer out) = sup
 actBytes sup (otn-level-report n) = sup
 actBytes sup (otn-level-trace n out) = sup
@@ -79,6 +87,7 @@ bufferOf (otn-fresh p) = []
 bufferOf (otn-level n r names) = []
 bufferOf (otn-step f counts) = []
 bufferOf (otn-mark out) = out
+bufferOf (otn-pending out) = out
 bufferOf (otn-trace layer out) = out
 bufferOf (otn-level-report n) = []
 bufferOf (otn-level-trace n out) = out
@@ -101,36 +110,44 @@ unfoldable pub bytesAfter : List ℕ → List Use → List ℕ
 bytesAfter sup [] = sup
 bytesAfter sup (u ∷ us) = bytesAfter (bytesUsed sup (u .lent) (u .act)) us
 
--- By the definitions, on a supervisor with its levels: the refusal, the answer and the buffer after the act.
+-- By the definitions, on a supervisor with its levels and its pending second: the refusal, the answer and the buffer after the act.
 
-unfoldable pub refusedOn : Tandem → Act → ℕ
-refusedOn t (otn-fresh p) = provisionRefusal p
-refusedOn t (otn-level n r names) = giveRefusal t n r names
-refusedOn t (otn-step f counts) = refusalAt t f counts
-refusedOn t (otn-mark out) = markedOf t .refusal
-refusedOn t (otn-trace layer out) =
-    firstOf (check 11 (leb layer 1) ∷ check 12 (eqb (length out) 64) ∷ check 13 (layerAt (t .base) layer .known) ∷ [])
-refusedOn t (otn-level-report n) = levelReport t n .refusal
-refusedOn t (otn-level-trace n out) =
-    firstOf (check 12 (eqb (length out) 64) ∷ check 13 (levelAt (t .levels) n .given && levelAt (t .levels) n .state .layer .known) ∷ [])
+unfoldable pub refusedOn : Late → Act → ℕ
+refusedOn s (otn-fresh p) = provisionRefusal p
+refusedOn s (otn-level n r names) = giveRefusal (s .tandem) n r names
+refusedOn s (otn-step f counts) = refusalAt (s .tandem) f counts
+refusedOn s (otn-mark out) = lateMarked s .refusal
+refusedOn s (otn-pending out) = 0
+refusedOn s (otn-trace layer out) =
+    firstOf (check 11 (leb layer 1) ∷ check 12 (eqb (length out) 64) ∷ check 13 (layerAt (s .tandem .base) layer .known) ∷ [])
+refusedOn s (otn-level-report n) = levelReport (s .tandem) n .refusal
+refusedOn s (otn-level-trace n out) =
+    firstOf (check 12 (eqb (length out) 64) ∷ check 13 (levelAt (s .tandem .levels) n .given && levelAt (s .tandem .levels) n .state .layer .known) ∷ [])
 
-unfoldable pub answerOn : Tandem → Act → ℕ
-answerOn t (otn-fresh p) = provisionRefusal p
-answerOn t (otn-level n r names) = giveRefusal t n r names
-answerOn t (otn-step f counts) = unless (refusalAt t f counts) (reportWord (framedAt t f counts .report)) (refusalAt t f counts)
-answerOn t (otn-mark out) = markedOf t .refusal
-answerOn t (otn-trace layer out) = refusedOn t (otn-trace layer out)
-answerOn t (otn-level-report n) = unless (levelReport t n .refusal) (toldWord (levelReport t n)) (levelReport t n .refusal)
-answerOn t (otn-level-trace n out) = refusedOn t (otn-level-trace n out)
+unfoldable pub answerOn : Late → Act → ℕ
+answerOn s (otn-fresh p) = provisionRefusal p
+answerOn s (otn-level n r names) = giveRefusal (s .tandem) n r names
+answerOn s (otn-step f counts) = unless (refusalAt (s .tandem) f counts) (reportWord (framedAt (s .tandem) f counts .report)) (refusalAt (s .tandem) f counts)
+answerOn s (otn-mark out) = unless (lateMarked s .refusal) (toldBit (lateMarked s .told)) (lateMarked s .refusal)
+answerOn s (otn-pending out) = toldBit (pendingOf s .told)
+answerOn s (otn-trace layer out) = refusedOn s (otn-trace layer out)
+answerOn s (otn-level-report n) =
+    unless (levelReport (s .tandem) n .refusal) (toldWord (levelReport (s .tandem) n)) (levelReport (s .tandem) n .refusal)
+answerOn s (otn-level-trace n out) = refusedOn s (otn-level-trace n out)
 
-unfoldable pub fillOn : Tandem → Act → List ℕ
-fillOn t (otn-fresh p) = []
-fillOn t (otn-level n r names) = []
-fillOn t (otn-step f counts) = []
-fillOn t (otn-mark out) = unless (markedOf t .refusal) (poured out (flat (markedOf t .figures))) out
-fillOn t (otn-trace layer out) = unless (refusedOn t (otn-trace layer out)) (layerAt (t .base) layer .accepted) out
-fillOn t (otn-level-report n) = []
-fillOn t (otn-level-trace n out) = unless (refusedOn t (otn-level-trace n out)) (levelTraced t n .trace) out
+-- a second's figures in the record, where one is told
+abbrev pub toldIn : Bool → List ℕ → List ℕ → List ℕ
+toldIn told figures out = cond told (poured out (flat figures)) out
+
+unfoldable pub fillOn : Late → Act → List ℕ
+fillOn s (otn-fresh p) = []
+fillOn s (otn-level n r names) = []
+fillOn s (otn-step f counts) = []
+fillOn s (otn-mark out) = unless (lateMarked s .refusal) (toldIn (lateMarked s .told) (lateMarked s .figures) out) out
+fillOn s (otn-pending out) = toldIn (pendingOf s .told) (pendingOf s .figures) out
+fillOn s (otn-trace layer out) = unless (refusedOn s (otn-trace layer out)) (layerAt (s .tandem .base) layer .accepted) out
+fillOn s (otn-level-report n) = []
+fillOn s (otn-level-trace n out) = unless (refusedOn s (otn-level-trace n out)) (levelTraced (s .tandem) n .trace) out
 
 -- The course of the uses by the definitions: the settings of the last accepted otn_fresh, and the levels, frames and marks accepted since.
 pub record Course : Type 0 where
@@ -141,9 +158,12 @@ pub record Course : Type 0 where
 abbrev pub eventsAt : Course → List Event
 eventsAt c = eventsAmong (c .calls)
 
--- the definitions' supervisor there
+-- the definitions' supervisor there, and with its pending second
 abbrev pub tandemAt : Course → Tandem
 tandemAt c = reached (c .settings) (c .calls)
+
+abbrev pub supAt : Course → Late
+supAt c = lateAt (c .settings) (c .calls)
 
 abbrev pub begunBy : Provision → Course
 begunBy p = record { settings = settingsBy p; calls = [] }
@@ -157,6 +177,7 @@ courseActed c (otn-fresh p) = unless (provisionRefusal p) (begunBy p) c
 courseActed c (otn-level n r names) = unless (giveRefusal (tandemAt c) n r names) (withCall c (gives n r names)) c
 courseActed c (otn-step f counts) = unless (refusalAt (tandemAt c) f counts) (withCall c (frames f counts)) c
 courseActed c (otn-mark out) = unless (markedOf (tandemAt c) .refusal) (withCall c marks) c
+courseActed c (otn-pending out) = c
 courseActed c (otn-trace layer out) = c
 courseActed c (otn-level-report n) = c
 courseActed c (otn-level-trace n out) = c
@@ -178,6 +199,7 @@ ActBytes (otn-fresh p) = Unit {0}
 ActBytes (otn-level n r names) = Unit {0}
 ActBytes (otn-step f counts) = IsBytes (f .overhead)
 ActBytes (otn-mark out) = Unit {0}
+ActBytes (otn-pending out) = Unit {0}
 ActBytes (otn-trace layer out) = Unit {0}
 ActBytes (otn-level-report n) = Unit {0}
 ActBytes (otn-level-trace n out) = Unit {0}
@@ -192,16 +214,17 @@ pub record FromFresh (b : List ℕ) (c : Course) : Type 0 where
   pub settings : SettingsIn (c .settings)
   pub taken : AllTaken (freshTandem (freshOf (c .settings))) (c .calls)
   pub accepted : Accepted (freshOf (c .settings)) (eventsAt c)
-  pub holds : b ≡ tandemBytes (tandemAt c)
+  pub same : supAt c .tandem ≡ tandemAt c
+  pub holds : b ≡ lateBytes (supAt c)
   -- every next act is that of the definitions there; C reads its refusal from its answer (otn_refusal)
-  pub refuses : (a : Act) → actRefusal b a ≡ refusedOn (tandemAt c) a
-  pub answers : (a : Act) → actAnswer b a ≡ answerOn (tandemAt c) a
+  pub refuses : (a : Act) → actRefusal b a ≡ refusedOn (supAt c) a
+  pub answers : (a : Act) → actAnswer b a ≡ answerOn (supAt c) a
   pub told : (a : Act) → bitsOf (actAnswer b a) 0 8 ≡ actRefusal b a
-  pub fills : (a : Act) → actFills b a ≡ fillOn (tandemAt c) a
-  pub leaves : (a : Act) → actBytes b a ≡ tandemBytes (tandemAt (courseActed c a))
+  pub fills : (a : Act) → actFills b a ≡ fillOn (supAt c) a
+  pub leaves : (a : Act) → actBytes b a ≡ lateBytes (supAt (courseActed c a))
   -- 17 is not met on these bytes, and is met on bytes of another length
   pub not17 : (a : Act) → actRefusal b a ≡ 17 → ⊥
-  pub elsewhere : (l : List ℕ) → (length l ≡ 2448 → ⊥) → (a : Act) → actRefusal l a ≡ 17
+  pub elsewhere : (l : List ℕ) → (length l ≡ 2620 → ⊥) → (a : Act) → actRefusal l a ≡ 17
   -- a refused act, on any bytes, leaves the bytes and the buffer as they were
   pub kept : (l : List ℕ) (a : Act) → (actRefusal l a ≡ 0 → ⊥) → (actBytes l a ≡ l) × (actFills l a ≡ bufferOf a)
 

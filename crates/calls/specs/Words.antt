@@ -1,4 +1,4 @@
--- The record of a closed second as C reads it: a row for each of its words, named as include/otn.h names it; then the four words of each level. Assumes
+-- The record of a second as C reads it: a row for each of its words, named as include/otn.h names it; then the four words of each level. Assumes
 -- nothing.
 use mathlib.Core.Path.{_≡_}
 use mathlib.Core.Bool.{true}

@@ -17,6 +17,8 @@ use Rattle.card.proofs.otn_step_levels.Kinds as step-levels-kinds
 use Rattle.card.proofs.otn_step_levels.Reads as step-levels-reads
 use Rattle.card.proofs.otn_mark.Kinds as mark-kinds
 use Rattle.card.proofs.otn_mark.Reads as mark-reads
+use Rattle.card.proofs.otn_pending.Kinds as pending-kinds
+use Rattle.card.proofs.otn_pending.Reads as pending-reads
 use Rattle.card.proofs.otn_trace.Kinds as trace-kinds
 use Rattle.card.proofs.otn_trace.Reads as trace-reads
 use Rattle.card.proofs.otn_level_report.Kinds as level-report-kinds
@@ -57,6 +59,12 @@ mark-end κs a x y s t p q = p .holds ∙ sym (q .holds)
 pub mark-record : OneEnd 2 mark-kinds.ps mark-kinds.r (List ℕ) (λ κs s. now (s .1 .0)) mark-reads.Post
 mark-record κs a x y s t p q = p .fills ∙ sym (q .fills)
 
+pub pending-one : OneAnswer 2 pending-kinds.ps pending-kinds.r pending-reads.Post
+pending-one κs a x y s t p q = p .answers ∙ sym (q .answers)
+
+pub pending-record : OneEnd 2 pending-kinds.ps pending-kinds.r (List ℕ) (λ κs s. now (s .1 .0)) pending-reads.Post
+pending-record κs a x y s t p q = p .fills ∙ sym (q .fills)
+
 pub trace-one : OneAnswer 2 trace-kinds.ps trace-kinds.r trace-reads.Post
 trace-one κs a x y s t p q = p .answers ∙ sym (q .answers)
 
@@ -87,6 +95,9 @@ step-levels-asks-nothing κs a = tt
 
 pub mark-asks-nothing : (κs : Lfts 2) (a : Dens κs mark-kinds.ps) → mark-reads.Asked κs a
 mark-asks-nothing κs a = tt
+
+pub pending-asks-nothing : (κs : Lfts 2) (a : Dens κs pending-kinds.ps) → pending-reads.Asked κs a
+pending-asks-nothing κs a = tt
 
 pub trace-asks-nothing : (κs : Lfts 2) (a : Dens κs trace-kinds.ps) → trace-reads.Asked κs a
 trace-asks-nothing κs a = tt

@@ -1,5 +1,5 @@
--- What each call from C answers, and what the lent bytes hold after it: the supervisor with six tandem levels that stands in 2448 bytes, by its
--- definitions. "Checked in number order, after 17": each call's tests are a list, 17 first. "A refusal answers its number and nothing else; supervisor
+-- What each call from C answers, and what the lent bytes hold after it: the supervisor with six tandem levels and its pending second that stands in 2620
+-- bytes, by its definitions. "Checked in number order, after 17": each call's tests are a list, 17 first. "A refusal answers its number and nothing else; supervisor
 -- and lent buffers keep their contents." Assumes nothing.
 use mathlib.Core.Path.{_≡_}
 use mathlib.Core.Bool.{Bool, cond, _&&_}
@@ -22,10 +22,13 @@ use Rattle.numbers.specs.Numbers.{headBytes, alignBytes}
 use Rattle.numbers.specs.Held.{Held, heldBytes, layerFrom}
 use Rattle.image.specs.Image.{lineHead, countsOf, sectionHeld, pathHeld}
 use Rattle.tandem.specs.Levels.{isLevel, levelAt, lowTo}
-use Rattle.tandem.specs.Tandem.{freshTandem, requestChecks, placeChecks, giveOf, frameChecks, framedOf, markedOf, levelReport, levelTraced}
+use Rattle.tandem.specs.Tandem.{freshTandem, requestChecks, placeChecks, giveOf, frameChecks, framedOf, levelReport, levelTraced}
 use Rattle.tandem.specs.declared.Level.{Level}
 use Rattle.tandem.specs.declared.LevelReport.{LevelReport}
-use Rattle.bays.specs.Image.{tandemBytes, tandemFrom, tandemSound}
+use Rattle.tandem.specs.declared.Tandem.{Tandem}
+use Rattle.late.specs.Late.{freshLate, pendingOf, lateMarked}
+use Rattle.late.specs.declared.Erred.{Erred}
+use Rattle.slots.specs.Image.{lateBytes, lateFrom, lateSound}
 use Rattle.word.specs.Report.{reportWord}
 use Rattle.word.specs.Level.{levelWord}
 use Rattle.card.specs.declared.Layered.{Layered}
@@ -34,6 +37,13 @@ use Rattle.card.specs.declared.Reported.{Reported}
 -- by a refusal's number: what is made where it is 0, what is kept where it is not
 abbrev pub unless : {A : Type 0} → ℕ → A → A → A
 unless refusal made kept = cond (eqb refusal 0) made kept
+
+-- the supervisor with levels in the bytes, and the bytes with another in its place: the pending second stays
+abbrev pub tandemOf : List ℕ → Tandem
+tandemOf sup = lateFrom sup .tandem
+
+abbrev pub lateWith : List ℕ → Tandem → List ℕ
+lateWith sup t = lateBytes (record { tandem = t; pending = lateFrom sup .pending })
 
 -- what C provisions: its twelve arguments but the supervisor
 pub record Provision : Type 0 where
@@ -55,7 +65,7 @@ provisionBy k sthr sdegm pthr pdegm smode pmode sdis pdis snames pnames = record
 
 -- otn_fresh: 17 where the bytes have a wrong length (they are not looked at), then 5 to 10
 abbrev pub freshChecks : List ℕ → Provision → List Check
-freshChecks sup p = check 17 (eqb (length sup) 2448) ∷ settingsChecks (p .k) (p .section) (p .path) (p .snames) (p .pnames)
+freshChecks sup p = check 17 (eqb (length sup) 2620) ∷ settingsChecks (p .k) (p .section) (p .path) (p .snames) (p .pnames)
 
 unfoldable pub freshRefusal : List ℕ → Provision → ℕ
 freshRefusal sup p = firstOf (freshChecks sup p)
@@ -71,7 +81,7 @@ abbrev pub freshBy : Provision → Supervisor
 freshBy p = freshOf (settingsBy p)
 
 unfoldable pub freshSup : List ℕ → Provision → List ℕ
-freshSup sup p = unless (freshRefusal sup p) (tandemBytes (freshTandem (freshBy p))) sup
+freshSup sup p = unless (freshRefusal sup p) (lateBytes (freshLate (freshTandem (freshBy p)))) sup
 
 pub record FreshCall (sup : List ℕ) (p : Provision) (r : ℕ) (after : List ℕ) : Type 0 where
   pub answers : r ≡ freshRefusal sup p
@@ -84,13 +94,13 @@ requestBy thr degm mode dis = record { thr = thr; degm = degm; mode = mode; dis 
 -- otn_level: 17, then 6 to 10, 16 and 18; level n is provisioned
 abbrev pub levelChecks : List ℕ → ℕ → Request → List ℕ → List Check
 levelChecks sup n r names =
-    check 17 (tandemSound sup) ∷ (requestChecks (tandemFrom sup .base .settings .k) r names ++ placeChecks (tandemFrom sup) n)
+    check 17 (lateSound sup) ∷ (requestChecks (tandemOf sup .base .settings .k) r names ++ placeChecks (tandemOf sup) n)
 
 unfoldable pub levelRefusal : List ℕ → ℕ → Request → List ℕ → ℕ
 levelRefusal sup n r names = firstOf (levelChecks sup n r names)
 
 unfoldable pub levelSup : List ℕ → ℕ → Request → List ℕ → List ℕ
-levelSup sup n r names = unless (levelRefusal sup n r names) (tandemBytes (giveOf (tandemFrom sup) n r names .tandem)) sup
+levelSup sup n r names = unless (levelRefusal sup n r names) (lateWith sup (giveOf (tandemOf sup) n r names .tandem)) sup
 
 pub record LevelCall (sup : List ℕ) (n : ℕ) (request : Request) (names : List ℕ) (r : ℕ) (after : List ℕ) : Type 0 where
   pub answers : r ≡ levelRefusal sup n request names
@@ -99,7 +109,7 @@ pub record LevelCall (sup : List ℕ) (n : ℕ) (request : Request) (names : Lis
 -- otn_step_levels, with the violation counts of levels 1 to 6: 17, then 1 to 4; an accepted frame's report stands above the low byte. otn_step is this
 -- with six counts 0.
 abbrev pub callChecks : List ℕ → List ℕ → ℕ → ℕ → ℕ → List ℕ → List Check
-callChecks sup overhead flags sm pm counts = check 17 (tandemSound sup) ∷ frameChecks (tandemFrom sup) overhead flags sm pm counts
+callChecks sup overhead flags sm pm counts = check 17 (lateSound sup) ∷ frameChecks (tandemOf sup) overhead flags sm pm counts
 
 -- the refusals but 17, by the frames that the open second holds
 unfoldable pub refusalBy : ℕ → List ℕ → ℕ → ℕ → ℕ → List ℕ → ℕ
@@ -131,52 +141,87 @@ reportedOf s overhead flags sm pm =
 unfoldable pub callAnswer : List ℕ → List ℕ → ℕ → ℕ → ℕ → List ℕ → ℕ
 callAnswer sup overhead flags sm pm counts =
     let refusal : ℕ = callRefusal sup overhead flags sm pm counts in
-    unless refusal (reportWord (framedOf (tandemFrom sup) overhead flags sm pm counts .report)) refusal
+    unless refusal (reportWord (framedOf (tandemOf sup) overhead flags sm pm counts .report)) refusal
 
 unfoldable pub callSup : List ℕ → List ℕ → ℕ → ℕ → ℕ → List ℕ → List ℕ
 callSup sup overhead flags sm pm counts =
-    unless (callRefusal sup overhead flags sm pm counts) (tandemBytes (framedOf (tandemFrom sup) overhead flags sm pm counts .tandem)) sup
+    unless (callRefusal sup overhead flags sm pm counts) (lateWith sup (framedOf (tandemOf sup) overhead flags sm pm counts .tandem)) sup
 
 pub record StepCall (sup overhead : List ℕ) (flags sm pm : ℕ) (counts : List ℕ) (r : ℕ) (after : List ℕ) : Type 0 where
   pub answers : r ≡ callAnswer sup overhead flags sm pm counts
   pub holds : after ≡ callSup sup overhead flags sm pm counts
 
--- otn_mark: 17, then 4; the closed second's forty-four figures, as words, go into the record as far as it has room
-abbrev pub markChecks : List ℕ → List Check
-markChecks sup = check 17 (tandemSound sup) ∷ check 4 (ltb (tandemFrom sup .base .seconds) 4294967295) ∷ []
-
-unfoldable pub markRefusal : List ℕ → ℕ
-markRefusal sup = firstOf (markChecks sup)
-
-unfoldable pub markSup : List ℕ → List ℕ
-markSup sup = unless (markRefusal sup) (tandemBytes (markedOf (tandemFrom sup) .tandem)) sup
+-- bit 8 of an answer: a second is told
+abbrev pub toldBit : Bool → ℕ
+toldBit told = cond told 256 0
 
 -- the twenty of line, section and path
 abbrev pub figuresAt : Supervisor → List ℕ
 figuresAt s = figuresOf (s .seconds + 1) (closedOf (s .second))
 
+-- pIAE and pBIAE of the open second by a layer's record
+abbrev pub erredIn : Held → Erred
+erredIn h = record { iae = h .state .iaeseen; biae = h .state .biaeseen }
+
+-- otn_mark: 17, then 4; where a second is told its forty-four figures, as words, go into the record as far as it has room, and otherwise the record is left
+-- alone
+abbrev pub markChecks : List ℕ → List Check
+markChecks sup = check 17 (lateSound sup) ∷ check 4 (ltb (tandemOf sup .base .seconds) 4294967295) ∷ []
+
+unfoldable pub markRefusal : List ℕ → ℕ
+markRefusal sup = firstOf (markChecks sup)
+
+unfoldable pub markAnswer : List ℕ → ℕ
+markAnswer sup =
+    let refusal : ℕ = markRefusal sup in
+    unless refusal (toldBit (lateMarked (lateFrom sup) .told)) refusal
+
+unfoldable pub markSup : List ℕ → List ℕ
+markSup sup = unless (markRefusal sup) (lateBytes (lateMarked (lateFrom sup) .late)) sup
+
 unfoldable pub markRecord : List ℕ → List ℕ → List ℕ
-markRecord sup out = unless (markRefusal sup) (poured out (flat (markedOf (tandemFrom sup) .figures))) out
+markRecord sup out =
+    unless (markRefusal sup) (cond (lateMarked (lateFrom sup) .told) (poured out (flat (lateMarked (lateFrom sup) .figures))) out) out
 
 pub record MarkCall (sup out : List ℕ) (r : ℕ) (after filled : List ℕ) : Type 0 where
-  pub answers : r ≡ markRefusal sup
+  pub answers : r ≡ markAnswer sup
   pub holds : after ≡ markSup sup
   pub fills : filled ≡ markRecord sup out
+
+-- otn_pending: 17; the pending second, if there is one, as it would be reported now. The supervisor is only read.
+abbrev pub pendingChecks : List ℕ → List Check
+pendingChecks sup = check 17 (lateSound sup) ∷ []
+
+unfoldable pub pendingRefusal : List ℕ → ℕ
+pendingRefusal sup = firstOf (pendingChecks sup)
+
+unfoldable pub pendingAnswer : List ℕ → ℕ
+pendingAnswer sup =
+    let refusal : ℕ = pendingRefusal sup in
+    unless refusal (toldBit (pendingOf (lateFrom sup) .told)) refusal
+
+unfoldable pub pendingRecord : List ℕ → List ℕ → List ℕ
+pendingRecord sup out =
+    unless (pendingRefusal sup) (cond (pendingOf (lateFrom sup) .told) (poured out (flat (pendingOf (lateFrom sup) .figures))) out) out
+
+pub record PendingCall (sup out : List ℕ) (r : ℕ) (filled : List ℕ) : Type 0 where
+  pub answers : r ≡ pendingAnswer sup
+  pub fills : filled ≡ pendingRecord sup out
 
 -- otn_trace: 17, then 11 to 13; the supervisor is only read
 abbrev pub traceChecks : List ℕ → ℕ → List ℕ → List Check
 traceChecks sup layer out =
-    check 17 (tandemSound sup)
+    check 17 (lateSound sup)
     ∷ check 11 (leb layer 1)
     ∷ check 12 (eqb (length out) 64)
-    ∷ check 13 (layerAt (tandemFrom sup .base) layer .known)
+    ∷ check 13 (layerAt (tandemOf sup .base) layer .known)
     ∷ []
 
 unfoldable pub traceRefused : List ℕ → ℕ → List ℕ → ℕ
 traceRefused sup layer out = firstOf (traceChecks sup layer out)
 
 unfoldable pub traceOut : List ℕ → ℕ → List ℕ → List ℕ
-traceOut sup layer out = unless (traceRefused sup layer out) (layerAt (tandemFrom sup .base) layer .accepted) out
+traceOut sup layer out = unless (traceRefused sup layer out) (layerAt (tandemOf sup .base) layer .accepted) out
 
 pub record TraceCall (sup : List ℕ) (layer : ℕ) (out : List ℕ) (r : ℕ) (after : List ℕ) : Type 0 where
   pub answers : r ≡ traceRefused sup layer out
@@ -184,7 +229,7 @@ pub record TraceCall (sup : List ℕ) (layer : ℕ) (out : List ℕ) (r : ℕ) (
 
 -- otn_level_report: 17, then 18; what is told of level n stands above the low byte, nothing of one that is not provisioned. The supervisor is only read.
 abbrev pub toldChecks : List ℕ → ℕ → List Check
-toldChecks sup n = check 17 (tandemSound sup) ∷ check 18 (isLevel n) ∷ []
+toldChecks sup n = check 17 (lateSound sup) ∷ check 18 (isLevel n) ∷ []
 
 unfoldable pub toldRefusal : List ℕ → ℕ → ℕ
 toldRefusal sup n = firstOf (toldChecks sup n)
@@ -199,18 +244,18 @@ actsIn h = timActs (timOf (layerFrom h) (h .front .mode) (h .names)) (h .front .
 unfoldable pub toldAnswer : List ℕ → ℕ → ℕ
 toldAnswer sup n =
     let refusal : ℕ = toldRefusal sup n in
-    unless refusal (toldWord (levelReport (tandemFrom sup) n)) refusal
+    unless refusal (toldWord (levelReport (tandemOf sup) n)) refusal
 
 pub record LevelReportCall (sup : List ℕ) (n r : ℕ) : Type 0 where
   pub answers : r ≡ toldAnswer sup n
 
 -- otn_level_trace: 17, then 12 and 13: one that is not provisioned, or is none of the six, has no accepted trace. The supervisor is only read.
 abbrev pub tracedAt : List ℕ → ℕ → Level
-tracedAt sup n = levelAt (tandemFrom sup .levels) n
+tracedAt sup n = levelAt (tandemOf sup .levels) n
 
 abbrev pub levelTraceChecks : List ℕ → ℕ → List ℕ → List Check
 levelTraceChecks sup n out =
-    check 17 (tandemSound sup)
+    check 17 (lateSound sup)
     ∷ check 12 (eqb (length out) 64)
     ∷ check 13 (tracedAt sup n .given && tracedAt sup n .state .layer .known)
     ∷ []
@@ -219,7 +264,7 @@ unfoldable pub levelTraceRefused : List ℕ → ℕ → List ℕ → ℕ
 levelTraceRefused sup n out = firstOf (levelTraceChecks sup n out)
 
 unfoldable pub levelTraceOut : List ℕ → ℕ → List ℕ → List ℕ
-levelTraceOut sup n out = unless (levelTraceRefused sup n out) (levelTraced (tandemFrom sup) n .trace) out
+levelTraceOut sup n out = unless (levelTraceRefused sup n out) (levelTraced (tandemOf sup) n .trace) out
 
 pub record LevelTraceCall (sup : List ℕ) (n : ℕ) (out : List ℕ) (r : ℕ) (after : List ℕ) : Type 0 where
   pub answers : r ≡ levelTraceRefused sup n out

@@ -1,10 +1,11 @@
 // The calls of the line card's C firmware, on numbers and lent bytes: each tests, refuses, and then works part by part in the supervisor's
-// bytes, 688 of line, section and path and 1760 of six tandem levels. include/otn.h documents them for C.
+// bytes, 688 of line, section and path, 1760 of six tandem levels and 172 of the pending second. include/otn.h documents them for C.
 use alignment::Multi;
 use answer::checked;
 use causes::Report;
 use causes::Standing;
 use filter::Filter;
+use late::Erred;
 use layer::Layer;
 use numbers::Head;
 use second::Frames;
@@ -25,8 +26,10 @@ ghost use Rattle.numbers.specs.Held.{heldIn};
 ghost use Rattle.word.specs.Report.{reportWord};
 ghost use Rattle.tandem.specs.Levels.{lowTo};
 ghost use Rattle.tandem.specs.Tandem.{freshTandem, giveRefusal, withLevel, frameRefusal, framedOf, markedOf, ssfNow, levelReport};
+ghost use Rattle.late.specs.Late.{freshLate, sectionErred, levelsErred, nextReport, lateMarked};
 ghost use Rattle.bays.specs.Image.{tandemBytes, tandemFrom, tandemSound};
-ghost use Rattle.card.specs.Calls.{provisionBy, FreshCall, requestBy, LevelCall, refusalBy, unfiled, layeredOf, reportedOf, StepCall, figuresAt, MarkCall, TraceCall, actsIn, toldWord, LevelReportCall, LevelTraceCall};
+ghost use Rattle.slots.specs.Image.{lateBytes, lateFrom, lateSound};
+ghost use Rattle.card.specs.Calls.{provisionBy, FreshCall, requestBy, LevelCall, refusalBy, unfiled, layeredOf, reportedOf, StepCall, figuresAt, erredIn, MarkCall, PendingCall, TraceCall, actsIn, toldWord, LevelReportCall, LevelTraceCall};
 
 // A frame in line, section and path: what stands after it, and the multiframe, which the levels take.
 struct Layered {
@@ -46,7 +49,7 @@ fn wide(x: u8) -> u64
     x as u64
 }
 
-// Whether lent bytes are a supervisor's: their length, and each number within its range.
+// Whether lent bytes are a supervisor's without its pending second: their length, and each number within its range.
 fn is_tandem(sup: &[u8]) -> bool
     ensures { λ r. ⌜ r ≡ tandemSound (now (sup .entry)) ⌝ }
 {
@@ -58,6 +61,18 @@ fn is_tandem(sup: &[u8]) -> bool
     false
 }
 
+// Whether lent bytes are a supervisor's: their length, and each number within its range, the pending second's too.
+fn is_late(sup: &[u8]) -> bool
+    ensures { λ r. ⌜ r ≡ lateSound (now (sup .entry)) ⌝ }
+{
+    if sup.len() == 2620 {
+        let tandem = is_tandem(&sup[0..2448]);
+        let slot = slot::is_slot(&sup[2448..2620]);
+        return tandem & slot;
+    }
+    false
+}
+
 // 2448 lent bytes become the image of a supervisor with no level provisioned.
 fn store(sup: &mut [u8], s: Supervisor)
     requires { ⌜ length (now sup) ≡ 2448 ⌝ }
@@ -65,6 +80,15 @@ fn store(sup: &mut [u8], s: Supervisor)
 {
     image::lay(&mut sup[0..688], s);
     bay::lay_bay(&mut sup[688..2448]);
+}
+
+// 2620 lent bytes become the image of a supervisor with no level provisioned and no second pending.
+fn store_late(sup: &mut [u8], s: Supervisor)
+    requires { ⌜ length (now sup) ≡ 2620 ⌝ }
+    ensures { λ _. ⌜ now (sup .exit) ≡ lateBytes (freshLate (freshTandem s)) ⌝ }
+{
+    store(&mut sup[0..2448], s);
+    codec::pour(&mut sup[2448..2620], &[0u8; 172]);
 }
 
 // A fresh supervisor under a provisioning.
@@ -85,7 +109,7 @@ pub extern "C" fn otn_fresh(
 ) -> u64
     ensures { λ r. ⌜ FreshCall (now (sup .entry)) (provisionBy k smthr smdegm pmthr pmdegm smmode pmmode smdis pmdis (now (smnames .entry)) (now (pmnames .entry))) r (now (sup .exit)) ⌝ }
 {
-    if sup.len() == 2448 {
+    if sup.len() == 2620 {
         let section = Request {
             thr: smthr,
             degm: smdegm,
@@ -101,7 +125,7 @@ pub extern "C" fn otn_fresh(
         let p = supervisor::provision(k, section, path, smnames, pmnames);
         if p.refusal == 0 {
             let s = p.supervisor;
-            store(sup, s);
+            store_late(sup, s);
             return 0;
         }
         return wide(p.refusal);
@@ -151,16 +175,16 @@ pub extern "C" fn otn_level(
 ) -> u64
     ensures { λ r. ⌜ LevelCall (now (sup .entry)) level (requestBy thr degm mode dis) (now (names .entry)) r (now (sup .exit)) ⌝ }
 {
-    if is_tandem(sup) {
+    if is_late(sup) {
         let request = Request {
             thr: thr,
             degm: degm,
             mode: mode,
             dis: dis,
         };
-        let refusal = level_refusal(sup, level, request, names);
+        let refusal = level_refusal(&sup[0..2448], level, request, names);
         if refusal == 0 {
-            level_in(sup, level, request, names);
+            level_in(&mut sup[0..2448], level, request, names);
             return 0;
         }
         return wide(refusal);
@@ -263,11 +287,11 @@ fn frame_in(sup: &mut [u8], overhead: &[u8], flags: u8, sm: u8, pm: u8, counts: 
 fn step_with(sup: &mut [u8], overhead: &[u8], flags: u8, sm: u8, pm: u8, counts: [u8; 6]) -> u64
     ensures { λ r. ⌜ StepCall (now (sup .entry)) (now (overhead .entry)) flags sm pm counts r (now (sup .exit)) ⌝ }
 {
-    if is_tandem(sup) {
+    if is_late(sup) {
         let c = words::words_in(&sup[0..688], 64);
         let refusal = step_refusal(c[0], overhead, flags, sm, pm, counts);
         if refusal == 0 {
-            return frame_in(sup, overhead, flags, sm, pm, counts);
+            return frame_in(&mut sup[0..2448], overhead, flags, sm, pm, counts);
         }
         return wide(refusal);
     }
@@ -343,21 +367,105 @@ fn close_in(sup: &mut [u8], k: u8, number: u32) -> [u8; 176]
     words::record_of(base, levels)
 }
 
-// A mark: the closed second goes into the record.
+// pIAE and pBIAE of the open second by a layer's record.
+fn erred_in(r: &[u8]) -> Erred
+    requires { ⌜ length (now r) ≡ 288 ⌝ }
+    ensures { λ x. ⌜ x ≡ erredIn (heldIn (now (r .entry))) ⌝ }
+{
+    let w = codec::strip_in(r, 32);
+    let state = numbers::state_in(w);
+    Erred {
+        iae: state.iaeseen,
+        biae: state.biaeseen,
+    }
+}
+
+// pIAE and pBIAE of the section's open second.
+fn section_erred(sup: &[u8]) -> Erred
+    requires { ⌜ length (now sup) ≡ 2448 ⌝ }
+    ensures { λ r. ⌜ r ≡ sectionErred (tandemFrom (now (sup .entry))) ⌝ }
+{
+    erred_in(&sup[112..400])
+}
+
+// Those of levels 1 to 6.
+fn levels_erred(sup: &[u8]) -> [Erred; 6]
+    requires { ⌜ length (now sup) ≡ 2448 ⌝ }
+    ensures { λ r. ⌜ r ≡ levelsErred (tandemFrom (now (sup .entry))) ⌝ }
+{
+    let one = erred_in(&sup[720..1008]);
+    let two = erred_in(&sup[1008..1296]);
+    let three = erred_in(&sup[1296..1584]);
+    let four = erred_in(&sup[1584..1872]);
+    let five = erred_in(&sup[1872..2160]);
+    let six = erred_in(&sup[2160..2448]);
+    [one, two, three, four, five, six]
+}
+
+// The record that the next mark reports, under its number: the pending second, discarded by the open one too.
+fn report_in(sup: &[u8], number: u32) -> [u8; 176]
+    requires { ⌜ length (now sup) ≡ 2620 ⌝ }
+    requires { ⌜ number ≡ lateFrom (now sup) .tandem .base .seconds ⌝ }
+    ensures { λ r. ⌜ r ≡ flat (nextReport (lateFrom (now (sup .entry)))) ⌝ }
+{
+    let pending = words::figures_in(sup, 2448);
+    let section = section_erred(&sup[0..2448]);
+    let levels = levels_erred(&sup[0..2448]);
+    let told = late::void(pending, section, levels);
+    words::numbered_record(number, told)
+}
+
+// An accepted mark in sound bytes: the second is closed, and is the pending one from then on.
+fn mark_late(sup: &mut [u8], k: u8, number: u32)
+    requires { ⌜ length (now sup) ≡ 2620 ⌝ }
+    requires { ⌜ lateSound (now sup) ≡ true ⌝ }
+    requires { ⌜ k ≡ lateFrom (now sup) .tandem .base .settings .k ⌝ }
+    requires { ⌜ number ≡ lateFrom (now sup) .tandem .base .seconds + 1 ⌝ }
+    requires { ⌜ number ≤ 4294967295 ⌝ }
+    ensures { λ _. ⌜ now (sup .exit) ≡ lateBytes (lateMarked (lateFrom (now (sup .entry))) .late) ⌝ }
+{
+    let bytes = close_in(&mut sup[0..2448], k, number);
+    codec::pour(&mut sup[2448..2620], &bytes[4..176]);
+}
+
+// A mark: the pending second, if there is one, goes into the record, and the one just closed is pending.
 #[no_mangle]
 pub extern "C" fn otn_mark(sup: &mut [u8], out: &mut [u8]) -> u64
     ensures { λ r. ⌜ MarkCall (now (sup .entry)) (now (out .entry)) r (now (sup .exit)) (now (out .exit)) ⌝ }
 {
-    if is_tandem(sup) {
+    if is_late(sup) {
         let w = codec::strip_in(&sup[0..688], 0);
         let head = numbers::head_in(w);
         if head.seconds < 4294967295 {
+            let bytes = report_in(sup, head.seconds);
             let number = head.seconds + 1;
-            let bytes = close_in(sup, head.k, number);
-            codec::pour(out, &bytes);
+            mark_late(sup, head.k, number);
+            if 0 < head.seconds {
+                codec::pour(out, &bytes);
+                return 256;
+            }
             return 0;
         }
         return 4;
+    }
+    17
+}
+
+// The pending second, if there is one, goes into the record as if it were reported now.
+#[no_mangle]
+pub extern "C" fn otn_pending(sup: &[u8], out: &mut [u8]) -> u64
+    ensures { λ r. ⌜ PendingCall (now (sup .entry)) (now (out .entry)) r (now (out .exit)) ⌝ }
+{
+    if is_late(sup) {
+        let w = codec::strip_in(&sup[0..688], 0);
+        let head = numbers::head_in(w);
+        if 0 < head.seconds {
+            let pending = words::figures_in(sup, 2448);
+            let bytes = words::numbered_record(head.seconds, pending);
+            codec::pour(out, &bytes);
+            return 256;
+        }
+        return 0;
     }
     17
 }
@@ -377,7 +485,7 @@ fn record_at(layer: u8) -> u32
 pub extern "C" fn otn_trace(sup: &[u8], layer: u8, out: &mut [u8]) -> u64
     ensures { λ r. ⌜ TraceCall (now (sup .entry)) layer (now (out .entry)) r (now (out .exit)) ⌝ }
 {
-    if is_tandem(sup) {
+    if is_late(sup) {
         let at = record_at(layer);
         let w = codec::strip_in(sup, at + 32);
         let state = numbers::state_in(w);
@@ -453,10 +561,10 @@ fn told_in(sup: &[u8], n: u8) -> u64
 pub extern "C" fn otn_level_report(sup: &[u8], level: u8) -> u64
     ensures { λ r. ⌜ LevelReportCall (now (sup .entry)) level r ⌝ }
 {
-    if is_tandem(sup) {
+    if is_late(sup) {
         let refusal = checked(18, (1 <= level) & (level <= 6), 0);
         if refusal == 0 {
-            return told_in(sup, level);
+            return told_in(&sup[0..2448], level);
         }
         return wide(refusal);
     }
@@ -468,7 +576,7 @@ pub extern "C" fn otn_level_report(sup: &[u8], level: u8) -> u64
 pub extern "C" fn otn_level_trace(sup: &[u8], level: u8, out: &mut [u8]) -> u64
     ensures { λ r. ⌜ LevelTraceCall (now (sup .entry)) level (now (out .entry)) r (now (out .exit)) ⌝ }
 {
-    if is_tandem(sup) {
+    if is_late(sup) {
         let traced = bay::trace_at(&sup[688..2448], level);
         let refusal = checked(12, out.len() == 64, traced.refusal);
         if refusal == 0 {

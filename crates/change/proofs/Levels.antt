@@ -40,7 +40,7 @@ unfolding changeOf
 change-untold name true = refl
 change-untold name false = refl
 
-same-untold : (xs : List Named) → changesOf xs xs ≡ []
+pub same-untold : (xs : List Named) → changesOf xs xs ≡ []
 unfolding changesOf
 same-untold [] = refl
 same-untold (x ∷ xs) = rw (change-untold (x .name) (x .stands)) (same-untold xs)
@@ -54,7 +54,7 @@ unfolding sameIn
 same-in zero from a = refl
 same-in (suc n) from a = rw (same-in n from a, eq-eqb (getD a (from + n) 0) (getD a (from + n) 0) refl)
 
-trace-untold : (name : List ℕ) (s : Seen) → traceChange name s s ≡ []
+pub trace-untold : (name : List ℕ) (s : Seen) → traceChange name s s ≡ []
 unfolding traceChange sameTrace
 trace-untold name s = rw (same-in 64 0 (s .trace)) (by (s .known))
   where

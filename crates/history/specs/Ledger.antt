@@ -100,7 +100,7 @@ pub record Since (h : List Event) : Type 0 where
   pub frames : List Frame
   pub is : h ≡ before ++ map frame frames
 
--- the figures of a line S, by the second's number and its frames
+-- the figures of a second as a mark closes it, by its number and its frames (what is reported of it: crate reports)
 abbrev pub lineFigures : ℕ → Supervisor → List Frame → List ℕ
 lineFigures n s fs =
     let iae : Bool = some sectionIae s fs in
@@ -119,7 +119,7 @@ marks (frame f ∷ h) = marks h
 marks (mark ∷ h) = 1 + marks h
 
 -- Demand 3: a mark after the history h closes a second that says of the frames since the last mark what they are, and its twenty figures
--- are those of the line
+-- are these
 pub record Demand3 (p : Settings) (h : List Event) : Type 0 where
   pub since : Since h
   pub says : Says (reached p (since .before)) (since .frames) (closedOf (reached p h .second))

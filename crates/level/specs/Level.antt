@@ -111,7 +111,7 @@ levelCount c d bei violations = record {
   biae = c .biae || d .biae;
 }
 
--- "An IAE or BIAE second discards the level's values as the section's." (document 02; 14.5.1.1.3, note 6, of this second alone)
+-- "An IAE or BIAE second discards the level's values as the section's." (document 02; 14.5.1.1.3, note 6; of the earlier second in crate late)
 abbrev pub levelClosed : LevelSecond → Blocks
 levelClosed c = discardOf (c .blocks) (c .iae) (c .biae)
 

@@ -22,9 +22,11 @@ use Rattle.tandem.specs.Levels.{givenGroups}
 use Rattle.trace.specs.declared.State.{State}
 use Rattle.trace.specs.Scan.{startOf}
 use Rattle.stream.specs.Stream.{change}
-use Rattle.lines.specs.Line.{lineFor, endingOf}
-use Rattle.lines.proofs.closed_line.Kinds as closed-kinds
-use Rattle.lines.proofs.closed_line.Reads as closed-reads
+use Rattle.supervisor.specs.declared.Supervisor.{Supervisor}
+use Rattle.late.specs.Late.{pendingOf}
+use Rattle.lines.specs.Line.{lineFor, secondLines, pendingLine, endLines, lastLines, endingOf}
+use Rattle.lines.proofs.reported_line.Kinds as reported-kinds
+use Rattle.lines.proofs.reported_line.Reads as reported-reads
 use Rattle.lines.proofs.last_lines.Kinds as last-kinds
 use Rattle.lines.proofs.last_lines.Reads as last-reads
 use Rattle.lines.proofs.told_line.Kinds as told-kinds
@@ -75,18 +77,18 @@ second-from-0 κs a x s h p z =
     let e : _≡_ {A = ℕ} 48 49 = sym z ∙ ap (λ (o : List ℕ). getD o 2 0) (p .2 ∙ ap (over d 0) f) ∙ first-second d in
     omega arith
 
--- closed_line: twenty figures of one digit make 42 bytes; with those of six levels that are not provisioned they would be 90
-pub all-listed : (κs : Lfts 1) (a : Dens κs closed-kinds.ps) (s : AtExit (endedOf 1 closed-kinds.ps closed-kinds.r) κs)
-    → a .0 ≡ startOf → now (a .1 .0) ≡ replicate 926 0 → a .1 .1 .0 ≡ 0 → closed-reads.Post κs a 90 s → ⊥
+-- reported_line: twenty figures of one digit make 42 bytes; with those of six levels that are not provisioned they would be 90
+pub all-listed : (κs : Lfts 1) (a : Dens κs reported-kinds.ps) (s : AtExit (endedOf 1 reported-kinds.ps reported-kinds.r) κs)
+    → a .0 ≡ startOf → now (a .1 .0) ≡ replicate 926 0 → a .1 .1 .0 ≡ 0 → reported-reads.Post κs a 90 s → ⊥
 unfolding fitted lineFor givenGroups textLine fieldsOf spaced decimalIn
 all-listed κs a s st d at p =
     let h : _≡_ {A = ℕ} 90 42 = rw (st, d, at) at (p .0) in
     omega arith
 
-nothing-put : (long at : ℕ) (done : Bool) (refusal offset marks frames : ℕ) → done ≡ false → length (fitted long at 88 (endingOf done refusal offset marks frames)) ≡ 0
+nothing-put : (long at : ℕ) (done : Bool) (st : State) (refusal offset frames : ℕ) → done ≡ false → length (fitted long at 1014 (endingOf done st refusal offset frames)) ≡ 0
 unfolding fitted
-nothing-put long at done refusal offset marks frames e =
-    rw e (by-cond (λ (l : List ℕ). length l ≡ 0) (leb 88 (long - at)) (λ _. refl) (λ _. refl))
+nothing-put long at done st refusal offset frames e =
+    rw e (by-cond (λ (l : List ℕ). length l ≡ 0) (leb 1014 (long - at)) (λ _. refl) (λ _. refl))
 
 -- last_lines: before the output is whole no last line is put
 pub last-too-early : (κs : Lfts 1) (a : Dens κs last-kinds.ps) (s : AtExit (endedOf 1 last-kinds.ps last-kinds.r) κs)
@@ -94,3 +96,34 @@ pub last-too-early : (κs : Lfts 1) (a : Dens κs last-kinds.ps) (s : AtExit (en
 last-too-early κs a s d at p =
     let e = nothing-put (length (now (a .1 .1 .1 .1 .1 .0))) (a .1 .1 .1 .1 .1 .1 .0) (a .0) (a .1 .0) (a .1 .1 .0) (a .1 .1 .1 .0) (a .1 .1 .1 .1 .0) d in
     omega (arith, p .0, e, at)
+
+-- the state after a second
+abbrev one-closed : State
+one-closed = record {
+  begun = true;
+  kind = 0;
+  sup = record {
+    tandem = record { base = record { settings = base .settings; layers = base .layers; second = base .second; seconds = 1 }; flags = 0; levels = startOf .sup .tandem .levels };
+    pending = startOf .sup .pending;
+  };
+  last = startOf .last;
+  standing = startOf .standing;
+  levels = startOf .levels;
+}
+  where
+    base : Supervisor
+    base = startOf .sup .tandem .base
+
+first-letter : (d : List ℕ) → getD (over d 0 (endingOf true one-closed 16 0 0)) 0 0 ≡ 83
+unfolding over lastLines pendingLine secondLines pendingOf endLines givenGroups textLine fieldsOf spaced decimalIn
+first-letter d = refl
+
+-- the pending second is printed before R
+pub refusal-first : (κs : Lfts 1) (a : Dens κs last-kinds.ps) (x : ℕ) (s : AtExit (endedOf 1 last-kinds.ps last-kinds.r) κs) → 1014 ≤ length (now (a .1 .1 .1 .1 .1 .0))
+    → last-reads.Post κs (true, (one-closed, (16, (0, (0, (a .1 .1 .1 .1 .1 .0, (0, tt))))))) x s → getD (now (s .1 .1 .1 .1 .1 .0)) 0 0 ≡ 82 → ⊥
+refusal-first κs a x s h p z =
+    let d : List ℕ = now (a .1 .1 .1 .1 .1 .0) in
+    let l : List ℕ = endingOf true one-closed 16 0 0 in
+    let f : fitted (length d) 0 1014 l ≡ l = fitted-is (length d) 0 1014 l (omega arith) in
+    let e : _≡_ {A = ℕ} 82 83 = sym z ∙ ap (λ (o : List ℕ). getD o 0 0) (p .1 ∙ ap (over d 0) f) ∙ first-letter d in
+    omega arith

@@ -6,8 +6,8 @@ use denote.Ref.{now}
 use Rattle.answer.specs.Answer.{OneAnswer, OneEnd}
 use Rattle.lines.proofs.told_line.Kinds as told-kinds
 use Rattle.lines.proofs.told_line.Reads as told-reads
-use Rattle.lines.proofs.closed_line.Kinds as closed-kinds
-use Rattle.lines.proofs.closed_line.Reads as closed-reads
+use Rattle.lines.proofs.reported_line.Kinds as reported-kinds
+use Rattle.lines.proofs.reported_line.Reads as reported-reads
 use Rattle.lines.proofs.last_lines.Kinds as last-kinds
 use Rattle.lines.proofs.last_lines.Reads as last-reads
 
@@ -17,11 +17,11 @@ told-one κs a x y s t p q = p .0 ∙ sym (q .0)
 pub told-end : OneEnd 1 told-kinds.ps told-kinds.r (List ℕ) (λ κs s. now (s .1 .1 .1 .0)) told-reads.Post
 told-end κs a x y s t p q = p .2 ∙ sym (q .2)
 
-pub closed-one : OneAnswer 1 closed-kinds.ps closed-kinds.r closed-reads.Post
-closed-one κs a x y s t p q = p .0 ∙ sym (q .0)
+pub reported-one : OneAnswer 1 reported-kinds.ps reported-kinds.r reported-reads.Post
+reported-one κs a x y s t p q = p .0 ∙ sym (q .0)
 
-pub closed-end : OneEnd 1 closed-kinds.ps closed-kinds.r (List ℕ) (λ κs s. now (s .1 .0)) closed-reads.Post
-closed-end κs a x y s t p q = p .2 ∙ sym (q .2)
+pub reported-end : OneEnd 1 reported-kinds.ps reported-kinds.r (List ℕ) (λ κs s. now (s .1 .0)) reported-reads.Post
+reported-end κs a x y s t p q = p .2 ∙ sym (q .2)
 
 pub last-one : OneAnswer 1 last-kinds.ps last-kinds.r last-reads.Post
 last-one κs a x y s t p q = p .0 ∙ sym (q .0)

@@ -1,14 +1,16 @@
-// The line of a record that a scan told, from the states before and after it; of a second that it closed; and the last lines.
+// The line of a record that a scan told, from the states before and after it; of a second that it reported; and the last lines.
 use change::Shown;
+use tandem::Level;
 use trace::State;
 ghost use mathlib.Core.Path.{_≡_};
 ghost use Prim.Native.Nat.{_+_, _≤_, _<_};
 ghost use lib.ListN.{length};
 ghost use Rattle.answer.specs.Over.{over};
-ghost use Rattle.listing.specs.Text.{fitted, secondRoom};
+ghost use Rattle.listing.specs.Text.{fitted, secondRoom, secondLine};
 ghost use Rattle.change.specs.Change.{changeRoom};
+ghost use Rattle.tandem.specs.Levels.{listedOf};
 ghost use Rattle.stream.specs.Stream.{lastListed, second, change};
-ghost use Rattle.lines.specs.Line.{shownIn, lineFor, endingOf, lastRoom};
+ghost use Rattle.lines.specs.Line.{shownIn, lineFor, pendingLine, endLines, endingOf, lastRoom};
 
 fn wide32(x: u32) -> u64
     ensures { λ r. ⌜ (r ≡ x) × (r < 4294967296) ⌝ }
@@ -20,7 +22,7 @@ fn wide32(x: u32) -> u64
 fn shown_in(st: State) -> Shown
     ensures { λ r. ⌜ r ≡ shownIn st ⌝ }
 {
-    let sup = st.sup;
+    let sup = st.sup.tandem;
     let standing = st.standing;
     let levels = st.levels;
     let report = causes::report_of(standing, 0, 0);
@@ -33,10 +35,10 @@ pub fn told_line(was: State, is: State, total: u64, out: &mut [u8], at: usize) -
 {
     let before = shown_in(was);
     let after = shown_in(is);
-    let second = wide32(is.sup.base.seconds) + 1;
+    let second = wide32(is.sup.tandem.base.seconds) + 1;
     change::change_line(
         second,
-        is.sup.base.second.frames.0,
+        is.sup.tandem.base.second.frames.0,
         total,
         before,
         after,
@@ -45,37 +47,67 @@ pub fn told_line(was: State, is: State, total: u64, out: &mut [u8], at: usize) -
     )
 }
 
-// Puts the line of the second that was closed last at a place: its twenty figures and the four of each provisioned level; where out has not the
-// room, nothing.
-pub fn closed_line(st: State, out: &mut [u8], at: usize) -> usize
-    ensures { λ r. ⌜ (r ≡ at + length (fitted (length (now (out .entry))) at secondRoom (lineFor (second (lastListed st))))) × (r ≤ at + secondRoom) × (now (out .exit) ≡ over (now (out .entry)) at (fitted (length (now (out .entry))) at secondRoom (lineFor (second (lastListed st))))) ⌝ }
+// Puts the line of a second at a place: of its figures the twenty and the four of each provisioned level; where out has not the room, nothing.
+fn listed_line(levels: [Level; 6], second: [u32; 44], out: &mut [u8], at: usize) -> usize
+    ensures { λ r. ⌜ (r ≡ at + length (fitted (length (now (out .entry))) at secondRoom (secondLine (listedOf levels second)))) × (r ≤ at + secondRoom) × (now (out .exit) ≡ over (now (out .entry)) at (fitted (length (now (out .entry))) at secondRoom (secondLine (listedOf levels second)))) ⌝ }
 {
-    let levels = st.sup.levels;
-    let last = st.last;
-    let listed = tandem::listed_figures(levels, last);
+    let listed = tandem::listed_figures(levels, second);
     let figures = listed.figures;
     listing::second_line(figures, listed.n, out, at)
 }
 
-// The last lines, where the output is whole with them: the refusal, if there is one, and what was accepted.
+// Puts the line of the second that was reported last at a place; where out has not the room, nothing.
+pub fn reported_line(st: State, out: &mut [u8], at: usize) -> usize
+    ensures { λ r. ⌜ (r ≡ at + length (fitted (length (now (out .entry))) at secondRoom (lineFor (second (lastListed st))))) × (r ≤ at + secondRoom) × (now (out .exit) ≡ over (now (out .entry)) at (fitted (length (now (out .entry))) at secondRoom (lineFor (second (lastListed st))))) ⌝ }
+{
+    let levels = st.sup.tandem.levels;
+    let last = st.last;
+    listed_line(levels, last, out, at)
+}
+
+// Puts the line of the pending second, if there is one.
+fn pending_line(st: State, out: &mut [u8], at: usize) -> usize
+    requires { ⌜ at + secondRoom ≤ length (now out) ⌝ }
+    ensures { λ r. ⌜ (r ≡ at + length (pendingLine st)) × (r ≤ at + secondRoom) × (now (out .exit) ≡ over (now (out .entry)) at (pendingLine st)) ⌝ }
+{
+    let sup = st.sup;
+    let levels = st.sup.tandem.levels;
+    let p = late::pending(sup);
+    if p.told {
+        let figures = p.figures;
+        return listed_line(levels, figures, out, at);
+    }
+    at
+}
+
+// Puts the refusal, if there is one, and what was accepted.
+fn end_lines(refusal: u8, offset: u64, marks: u32, frames: u64, out: &mut [u8], at: usize) -> usize
+    requires { ⌜ at + 88 ≤ length (now out) ⌝ }
+    ensures { λ n. ⌜ (n ≡ at + length (endLines refusal offset marks frames)) × (now (out .exit) ≡ over (now (out .entry)) at (endLines refusal offset marks frames)) ⌝ }
+{
+    if refusal == 0 {
+        return listing::end_line(marks, frames, out, at);
+    }
+    let p = listing::refusal_line(refusal, offset, out, at);
+    listing::end_line(marks, frames, out, p)
+}
+
+// The last lines, where the output is whole with them: the pending second, the refusal, if there is one, and what was accepted.
 fn finish(
     done: bool,
+    st: State,
     refusal: u8,
     offset: u64,
-    marks: u32,
     frames: u64,
     out: &mut [u8],
     at: usize,
 ) -> usize
-    requires { ⌜ at + 88 ≤ length (now out) ⌝ }
-    ensures { λ n. ⌜ (n ≡ at + length (endingOf done refusal offset marks frames)) × (now (out .exit) ≡ over (now (out .entry)) at (endingOf done refusal offset marks frames)) ⌝ }
+    requires { ⌜ at + 1014 ≤ length (now out) ⌝ }
+    ensures { λ n. ⌜ (n ≡ at + length (endingOf done st refusal offset frames)) × (now (out .exit) ≡ over (now (out .entry)) at (endingOf done st refusal offset frames)) ⌝ }
 {
     if done {
-        if refusal == 0 {
-            return listing::end_line(marks, frames, out, at);
-        }
-        let p = listing::refusal_line(refusal, offset, out, at);
-        return listing::end_line(marks, frames, out, p);
+        let p = pending_line(st, out, at);
+        return end_lines(refusal, offset, st.sup.tandem.base.seconds, frames, out, p);
     }
     at
 }
@@ -83,20 +115,20 @@ fn finish(
 // Puts the last lines at a place, where the output is `done` with them; where out has not the room, nothing.
 pub fn last_lines(
     done: bool,
+    st: State,
     refusal: u8,
     offset: u64,
-    marks: u32,
     frames: u64,
     out: &mut [u8],
     at: usize,
 ) -> usize
-    ensures { λ r. ⌜ (r ≡ at + length (fitted (length (now (out .entry))) at lastRoom (endingOf done refusal offset marks frames))) × (now (out .exit) ≡ over (now (out .entry)) at (fitted (length (now (out .entry))) at lastRoom (endingOf done refusal offset marks frames))) ⌝ }
+    ensures { λ r. ⌜ (r ≡ at + length (fitted (length (now (out .entry))) at lastRoom (endingOf done st refusal offset frames))) × (now (out .exit) ≡ over (now (out .entry)) at (fitted (length (now (out .entry))) at lastRoom (endingOf done st refusal offset frames))) ⌝ }
 {
-    if out.len() < 88 {
+    if out.len() < 1014 {
         return at;
     }
-    if out.len() - 88 < at {
+    if out.len() - 1014 < at {
         return at;
     }
-    finish(done, refusal, offset, marks, frames, out, at)
+    finish(done, st, refusal, offset, frames, out, at)
 }

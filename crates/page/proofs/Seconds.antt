@@ -1,6 +1,6 @@
 -- The open second on the page is that of the definitions, by Demand 3: tallies, DS, discard, and the figures of a mark. Assumes nothing.
 use mathlib.Core.Path.{_≡_, refl, ap, ap₂, sym, _∙_, subst}
-use mathlib.Core.Bool.{Bool, true, false, cond, _||_}
+use mathlib.Core.Bool.{Bool, true, false, cond, _||_, or-comm}
 use mathlib.Core.List.{List, [], _∷_, map, reverse, reverseAux, reverse-reverse, reverse-append, reverseAux-append}
 use Prim.Native.Nat.{ℕ, _+_, _<_}
 use native.Mathlib.Nat.{zero-add, add-zero}
@@ -10,7 +10,7 @@ use lib.ListN.{length, getD}
 use Rattle.answer.specs.Bits.{flag}
 use Rattle.causes.specs.Causes.{ssfOf, timActs, headOf}
 use Rattle.causes.specs.declared.Standing.{Standing}
-use Rattle.second.specs.Second.{closedOf, figuresOf}
+use Rattle.second.specs.Second.{countOf, closedOf, figuresOf}
 use Rattle.settings.specs.Ranges.{SettingsIn}
 use Rattle.settings.specs.declared.Settings.{Settings}
 use Rattle.supervisor.specs.Supervisor.{freshOf, frameOf, nextSecond}
@@ -110,6 +110,20 @@ module _ (p : Settings) (v : SettingsIn p) where
   asks : (a : Question) (k : List Event) (f : Frame) → a (standsAt (sup p k) f) f
       ≡ a (standing p f (framesBack k) (sup p k .layers .section .layer .deg .on) (sup p k .layers .path .layer .deg .on)) f
   asks a k f = ap (λ (d : Standing). a d f) (stands-is p v k f)
+
+  -- pIAE and pBIAE of the open second
+  pub iae-is : (k : List Event) → sup p k .second .iae ≡ discarded p k
+  unfolding eventOf frameOf nextSecond countOf inSecond any
+  iae-is [] = refl
+  iae-is (frame f ∷ k) = ap₂ (λ (x y : Bool). x || y) (iae-is k) (asks sectionIae k f) ∙ or-comm (discarded p k) (dIAE p (f ∷ framesBack k))
+  iae-is (mark ∷ k) = refl
+
+  pub biae-is : (k : List Event) → sup p k .second .biae ≡ some (λ f l. dBIAE p (f ∷ l)) k
+  unfolding eventOf frameOf nextSecond countOf inSecond any
+  biae-is [] = refl
+  biae-is (frame f ∷ k) =
+      ap₂ (λ (x y : Bool). x || y) (biae-is k) (asks sectionBiae k f) ∙ or-comm (some (λ g l. dBIAE p (g ∷ l)) k) (dBIAE p (f ∷ framesBack k))
+  biae-is (mark ∷ k) = refl
 
   -- the second that a mark after the accepted history k would close
   module _ (k : List Event) (a : AcceptedBack p k) where

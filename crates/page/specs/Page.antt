@@ -312,7 +312,7 @@ module _ (p : Settings) where
   pathDeg h = onBy (p .path .degm) (pathBads h)
 
   -- "S: second from 1, frames, heads 0 to 9, section near blocks, far blocks, near DS, far DS, then the path's four." "Heads are never
-  -- discarded."
+  -- discarded." As the mark closes the second; what is reported of it one mark later: crate reports.
   abbrev pub under : ℕ → List Event → ℕ
   under k h = tally (λ f l. eqb (head p f l) k) h
 

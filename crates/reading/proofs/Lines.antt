@@ -5,8 +5,10 @@ use mathlib.Core.Bool.{Bool, true, false}
 use mathlib.Core.List.{List, [], _∷_, _++_}
 use native.Mathlib.Nat.{add-zero, add-sub-cancel-left}
 use native.Mathlib.Omega.{arith}
+use lib.Dec.{leb}
 use lib.ListN.{length, drop, length-append}
 use Rattle.answer.specs.Over.{over}
+use Rattle.answer.proofs.Cond.{by-cond}
 use Rattle.listing.specs.Text.{fitted}
 use Rattle.answer.proofs.Overs.{over-nil, over-over}
 use Rattle.listing.proofs.Overs.{fitted-is}
@@ -18,8 +20,9 @@ use Rattle.trace.specs.Scan.{runOf}
 use Rattle.stream.specs.Stream.{lastListed, Note, second, change, Scan, before, stopped, scanFrom, scanAfter}
 use Rattle.stream.specs.Counts.{Counted}
 use Rattle.stream.proofs.Streams.{agree}
-use Rattle.stream.proofs.Counts.{run-counted, Stands, stands}
+use Rattle.stream.proofs.Counts.{run-counted, Quiet, wide, marked, told-quiet, Stands, stands}
 use Rattle.lines.specs.Line.{lineFor}
+use Rattle.lines.proofs.Marks.{mark-untold}
 use Rattle.reading.specs.Listing.{linesOf}
 use Rattle.reading.specs.Turn.{readingOf, readFrom, haltOf, Sound}
 use Rattle.reading.specs.declared.Reading.{Reading}
@@ -38,22 +41,22 @@ gatheredOf r s =
     record { reading = readingOf (r .tell) c; used = c .at - r .at; put = length (linesOf (c .told)); refusal = c .refusal }
 
 -- which stop it was, by what it says
-closed-is : (x : Stop) → haltOf x .ends ≡ false → haltOf x .told ≡ false → x ≡ stop.Closed
+reported-is : (x : Stop) → haltOf x .ends ≡ false → haltOf x .told ≡ false → x ≡ stop.Reported
 unfolding haltOf
-closed-is stop.More e t = let z : _≡_ {A = ℕ} 0 1 = cc in absurd (omega arith)
-closed-is (stop.Refused number offset) e t = let z : _≡_ {A = ℕ} 0 1 = cc in absurd (omega arith)
-closed-is stop.Closed e t = refl
-closed-is stop.Told e t = let z : _≡_ {A = ℕ} 0 1 = cc in absurd (omega arith)
+reported-is stop.More e t = let z : _≡_ {A = ℕ} 0 1 = cc in absurd (omega arith)
+reported-is (stop.Refused number offset) e t = let z : _≡_ {A = ℕ} 0 1 = cc in absurd (omega arith)
+reported-is stop.Reported e t = refl
+reported-is stop.Told e t = let z : _≡_ {A = ℕ} 0 1 = cc in absurd (omega arith)
 
 told-is : (x : Stop) → haltOf x .ends ≡ false → haltOf x .told ≡ true → x ≡ stop.Told
 unfolding haltOf
 told-is stop.More e t = let z : _≡_ {A = ℕ} 0 1 = cc in absurd (omega arith)
 told-is (stop.Refused number offset) e t = let z : _≡_ {A = ℕ} 0 1 = cc in absurd (omega arith)
-told-is stop.Closed e t = let z : _≡_ {A = ℕ} 0 1 = cc in absurd (omega arith)
+told-is stop.Reported e t = let z : _≡_ {A = ℕ} 0 1 = cc in absurd (omega arith)
 told-is stop.Told e t = refl
 
-pub halt-closed : (h : Halt) (x : Stop) → h ≡ haltOf x → h .ends ≡ false → h .told ≡ false → x ≡ stop.Closed
-halt-closed h x p e t = closed-is x (ap (λ (h : Halt). h .ends) (sym p) ∙ e) (ap (λ (h : Halt). h .told) (sym p) ∙ t)
+pub halt-reported : (h : Halt) (x : Stop) → h ≡ haltOf x → h .ends ≡ false → h .told ≡ false → x ≡ stop.Reported
+halt-reported h x p e t = reported-is x (ap (λ (h : Halt). h .ends) (sym p) ∙ e) (ap (λ (h : Halt). h .told) (sym p) ∙ t)
 
 pub halt-told : (h : Halt) (x : Stop) → h ≡ haltOf x → h .ends ≡ false → h .told ≡ true → x ≡ stop.Told
 halt-told h x p e t = told-is x (ap (λ (h : Halt). h .ends) (sym p) ∙ e) (ap (λ (h : Halt). h .told) (sym p) ∙ t)
@@ -68,9 +71,9 @@ onFrom tell base n s r = scanFrom tell (drop (r .at) s) (base + r .at) (n + r .f
 
 -- what a run has come to, by why it stopped
 module _ (tell : Bool) (base n : ℕ) (st : State) (s : List ℕ) (r : Run) where
-  pub after-closed : r .stop ≡ stop.Closed → scanAfter tell base n st s r ≡ before (second (lastListed (r .state)) ∷ []) (onFrom tell base n s r)
+  pub after-reported : r .stop ≡ stop.Reported → scanAfter tell base n st s r ≡ before (second (lastListed (r .state)) ∷ []) (onFrom tell base n s r)
   unfolding scanAfter
-  after-closed e = rw e
+  after-reported e = rw e
 
   pub after-told : r .stop ≡ stop.Told → scanAfter tell base n st s r ≡ before (change (n + r .frames) st (r .state) ∷ []) (onFrom tell base n s r)
   unfolding scanAfter
@@ -113,51 +116,76 @@ module _ (from : Reading) (s d out : List ℕ) (at put : ℕ) (st : State) (fram
   pub run-sound : Counted (from .at + r .at) (frames + r .frames) (r .state)
   run-sound = rw e (run-counted (from .tell) s (from .at) frames at 0 st (rw (add-zero frames) (g .counted)))
 
-  -- something was told of k bytes at least, and its line put, which has its room
-  pub going-on : (note : Note) (room k p : ℕ) (out₂ : List ℕ) → scanAfter (from .tell) (from .at) frames st s r ≡ before (note ∷ []) (onFrom (from .tell) (from .at) frames s r)
-      → at + k ≤ r .at → 4 * room ≤ 926 * k → length s ≤ 4096 → 948312 ≤ length d
-      → p ≡ put + length (fitted (length out) put room (lineFor note)) → p ≤ put + room → out₂ ≡ over out put (fitted (length out) put room (lineFor note)) → length out₂ ≡ length out
+  -- something was told, and its line put
+  going-line : (note : Note) (p : ℕ) (out₂ : List ℕ) → scanAfter (from .tell) (from .at) frames st s r ≡ before (note ∷ []) (onFrom (from .tell) (from .at) frames s r)
+      → put ≤ length out → 4 * p ≤ 926 * r .at → p ≡ put + length (lineFor note) → out₂ ≡ over out put (lineFor note) → length out₂ ≡ length out
       → Going from s d out₂ (r .at) p (r .state) (frames + r .frames)
   unfolding linesOf
-  going-on note room k p out₂ told on little short big ep few eo el =
+  going-line note p out₂ told roomy room ep eo el =
       let l : List ℕ = lineFor note in
       let q : Scan = onFrom (from .tell) (from .at) frames s r in
-      let h = run-stands in
-      let roomy : put + room ≤ length out = omega (arith, g .room, g .long, h .inside) in
-      let f : fitted (length out) put room l ≡ l = fitted-is (length out) put room l roomy in
-      let ep' : p ≡ put + length l = ep ∙ ap (λ (v : List ℕ). put + length v) f in
-      let eo' : out₂ ≡ over out put l = eo ∙ ap (over out put) f in
       let w : scanFrom (from .tell) (drop at s) (from .at + at) frames st ≡ before (note ∷ []) q = left-is ∙ told in
       record {
-        inside = h .inside;
+        inside = run-stands .inside;
         long = el ∙ g .long;
         same = g .same ∙ ap ending w;
         text =
             g .text ∙ ap (λ (c : Scan). over out put (linesOf (c .told))) w
-            ∙ sym (over-over out put p l (linesOf (q .told)) (omega arith) ep')
-            ∙ ap (λ (o : List ℕ). over o p (linesOf (q .told))) (sym eo');
+            ∙ sym (over-over out put p l (linesOf (q .told)) roomy ep)
+            ∙ ap (λ (o : List ℕ). over o p (linesOf (q .told))) (sym eo);
         place =
             let x : length (l ++ linesOf (q .told)) ≡ length l + length (linesOf (q .told)) = length-append l (linesOf (q .told)) in
-            omega (arith, g .place ∙ ap (λ (c : Scan). put + length (linesOf (c .told))) w, x, ep');
-        room = omega (arith, g .room, few);
+            omega (arith, g .place ∙ ap (λ (c : Scan). put + length (linesOf (c .told))) w, x, ep);
+        room = room;
         counted = run-sound;
       }
 
-  -- a second was closed
-  pub going-closed : (p : ℕ) (out₂ : List ℕ) → r .stop ≡ stop.Closed → length s ≤ 4096 → 948312 ≤ length d
+  -- of k bytes at least, and the line has its room
+  pub going-on : (note : Note) (room k p : ℕ) (out₂ : List ℕ) → scanAfter (from .tell) (from .at) frames st s r ≡ before (note ∷ []) (onFrom (from .tell) (from .at) frames s r)
+      → at + k ≤ r .at → 4 * room ≤ 926 * k → length s ≤ 4096 → 949238 ≤ length d
+      → p ≡ put + length (fitted (length out) put room (lineFor note)) → p ≤ put + room → out₂ ≡ over out put (fitted (length out) put room (lineFor note)) → length out₂ ≡ length out
+      → Going from s d out₂ (r .at) p (r .state) (frames + r .frames)
+  going-on note room k p out₂ told on little short big ep few eo el =
+      let h = run-stands in
+      let roomy : put + room ≤ length out = omega (arith, g .room, g .long, h .inside) in
+      let f : fitted (length out) put room (lineFor note) ≡ lineFor note = fitted-is (length out) put room (lineFor note) roomy in
+      going-line note p out₂ told (omega arith) (omega (arith, g .room, few)) (ep ∙ ap (λ (v : List ℕ). put + length v) f) (eo ∙ ap (over out put) f) el
+
+  -- whose line is empty
+  going-quiet : (note : Note) (room p : ℕ) (out₂ : List ℕ) → scanAfter (from .tell) (from .at) frames st s r ≡ before (note ∷ []) (onFrom (from .tell) (from .at) frames s r)
+      → lineFor note ≡ [] → length s ≤ 4096 → 949238 ≤ length d
+      → p ≡ put + length (fitted (length out) put room (lineFor note)) → out₂ ≡ over out put (fitted (length out) put room (lineFor note)) → length out₂ ≡ length out
+      → Going from s d out₂ (r .at) p (r .state) (frames + r .frames)
+  unfolding fitted
+  going-quiet note room p out₂ told none short big ep eo el =
+      let h = run-stands in
+      let f : fitted (length out) put room (lineFor note) ≡ lineFor note = rw none (by-cond (λ (l : List ℕ). l ≡ []) (leb room (length out - put)) (λ _. refl) (λ _. refl)) in
+      let ep' : p ≡ put + length (lineFor note) = ep ∙ ap (λ (v : List ℕ). put + length v) f in
+      let zero : length (lineFor note) ≡ 0 = ap length none in
+      going-line note p out₂ told (omega (arith, g .room, g .long, h .inside, h .later)) (omega (arith, ep', zero, g .room, h .later)) ep' (eo ∙ ap (over out put) f) el
+
+  -- a second was reported
+  pub going-reported : (p : ℕ) (out₂ : List ℕ) → r .stop ≡ stop.Reported → length s ≤ 4096 → 949238 ≤ length d
       → p ≡ put + length (fitted (length out) put 926 (lineFor (second (lastListed (r .state))))) → p ≤ put + 926
       → out₂ ≡ over out put (fitted (length out) put 926 (lineFor (second (lastListed (r .state))))) → length out₂ ≡ length out
       → Going from s d out₂ (r .at) p (r .state) (frames + r .frames)
-  going-closed p out₂ c short big ep few eo el =
-      going-on (second (lastListed (r .state))) 926 4 p out₂ (after-closed (from .tell) (from .at) frames st s r c) (run-stands .further c) (omega arith) short big ep few eo el
+  going-reported p out₂ c short big ep few eo el =
+      going-on (second (lastListed (r .state))) 926 4 p out₂ (after-reported (from .tell) (from .at) frames st s r c) (run-stands .further c) (omega arith) short big ep few eo el
 
   -- a record was told
-  pub going-told : (p : ℕ) (out₂ : List ℕ) → r .stop ≡ stop.Told → length s ≤ 4096 → 948312 ≤ length d
+  pub going-told : (p : ℕ) (out₂ : List ℕ) → r .stop ≡ stop.Told → length s ≤ 4096 → 949238 ≤ length d
       → p ≡ put + length (fitted (length out) put 2560 (lineFor (change (frames + r .frames) st (r .state)))) → p ≤ put + 2560
       → out₂ ≡ over out put (fitted (length out) put 2560 (lineFor (change (frames + r .frames) st (r .state)))) → length out₂ ≡ length out
       → Going from s d out₂ (r .at) p (r .state) (frames + r .frames)
-  going-told p out₂ c short big ep few eo el =
-      going-on (change (frames + r .frames) st (r .state)) 2560 44 p out₂ (after-told (from .tell) (from .at) frames st s r c) (run-stands .told c) (omega arith) short big ep few eo el
+  going-told p out₂ c short big ep few eo el = by (rw e (told-quiet s (from .tell) at 0 st (ap (λ (x : Run). x .stop) (sym e) ∙ c)))
+    where
+      told : scanAfter (from .tell) (from .at) frames st s r ≡ before (change (frames + r .frames) st (r .state) ∷ []) (onFrom (from .tell) (from .at) frames s r)
+      told = after-told (from .tell) (from .at) frames st s r c
+
+      by : Quiet at (r .at) st (r .state) → Going from s d out₂ (r .at) p (r .state) (frames + r .frames)
+      by (wide far) = going-on (change (frames + r .frames) st (r .state)) 2560 44 p out₂ told far (omega arith) short big ep few eo el
+      by (marked is) =
+          going-quiet (change (frames + r .frames) st (r .state)) 2560 p out₂ told (ap (λ (u : State). lineFor (change (frames + r .frames) st u)) is ∙ mark-untold (frames + r .frames) st) short big ep eo el
 
   -- what a run has come to that ends the turn
   stops : (x : Stop) → r .stop ≡ x → haltOf x .ends ≡ true
@@ -167,7 +195,7 @@ module _ (from : Reading) (s d out : List ℕ) (at put : ℕ) (st : State) (fram
   stops (stop.Refused number offset) q z =
       after-refused (from .tell) (from .at) frames st s r number offset q
       ∙ ap (λ (k : ℕ). stopped (r .state) (from .at + k) (frames + r .frames) number (drop k s)) (run-stands .same number offset q)
-  stops stop.Closed q z = let w : _≡_ {A = ℕ} 0 1 = cc in absurd (omega arith)
+  stops stop.Reported q z = let w : _≡_ {A = ℕ} 0 1 = cc in absurd (omega arith)
   stops stop.Told q z = let w : _≡_ {A = ℕ} 0 1 = cc in absurd (omega arith)
 
   pub halts : (h : Halt) → h ≡ haltOf (r .stop) → h .ends ≡ true

@@ -21,16 +21,16 @@ use Rattle.reading.proofs.Lines.{Gathered, gatheredOf}
 use Rattle.reading.specs.declared.Turned.{Turned}
 
 -- the last lines, where there is room for them
-pub ending-put : (d : List ℕ) (at r : ℕ) (o v : List ℕ) → at + 88 ≤ length d → r ≡ at + length (fitted (length d) at 88 v) → o ≡ over d at (fitted (length d) at 88 v)
+pub ending-put : (d : List ℕ) (at r : ℕ) (o v : List ℕ) → at + 1014 ≤ length d → r ≡ at + length (fitted (length d) at 1014 v) → o ≡ over d at (fitted (length d) at 1014 v)
     → (r ≡ at + length v) × (o ≡ over d at v)
 ending-put d at r o v h e t =
-    let f : fitted (length d) at 88 v ≡ v = fitted-is (length d) at 88 v h in
+    let f : fitted (length d) at 1014 v ≡ v = fitted-is (length d) at 1014 v h in
     (e ∙ ap (λ (w : List ℕ). at + length w) f, t ∙ ap (over d at) f)
 
 -- what `turn` answers
 module _ (from : Reading) (s : List ℕ) (ended : Bool) (d o : List ℕ) (text : o ≡ over d 0 (linesOf (readFrom from s .told))) where
   abbrev endOf : Gathered → Bool → List ℕ
-  endOf g more = endingOf (ended || not more) (g .refusal) (g .reading .at) (g .reading .state .sup .base .seconds) (g .reading .frames)
+  endOf g more = endingOf (ended || not more) (g .reading .state) (g .refusal) (g .reading .at) (g .reading .frames)
 
   abbrev Turns : Gathered → Bool → Type 0
   Turns g more = (p : ℕ) (o₂ : List ℕ) → p ≡ g .put + length (endOf g more) → o₂ ≡ over o (g .put) (endOf g more)

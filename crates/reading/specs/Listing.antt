@@ -1,5 +1,5 @@
 -- What the programs print of a trace: from the bytes of the whole input to the bytes of the whole output (document 01, "Trace records and the
--- listing"). Assumes nothing.
+-- listing"; document 02, K3). Assumes nothing.
 use Prim.Native.Nat.{ℕ}
 use mathlib.Core.Bool.{Bool, true, false}
 use mathlib.Core.List.{List, [], _∷_, _++_}
@@ -11,9 +11,9 @@ unfoldable pub linesOf : List Note → List ℕ
 linesOf [] = []
 linesOf (n ∷ ns) = lineFor n ++ linesOf ns
 
--- those of a scan: the marks accepted are the seconds closed
+-- those of a scan's end: the pending second, if there is one, the refusal, if there is one, and what was accepted
 abbrev pub tailOf : Scan → List ℕ
-tailOf c = lastLines (c .refusal) (c .at) (c .state .sup .base .seconds) (c .frames)
+tailOf c = lastLines (c .state) (c .refusal) (c .at) (c .frames)
 
 -- the text of what a scan has come to
 abbrev pub textOf : Scan → List ℕ

@@ -41,7 +41,7 @@ Sound r = Counted (r .at) (r .frames) (r .state)
 unfoldable pub haltOf : Stop → Halt
 haltOf stop.More = record { ends = true; told = false; refusal = 0 }
 haltOf (stop.Refused number offset) = record { ends = true; told = false; refusal = number }
-haltOf stop.Closed = record { ends = false; told = false; refusal = 0 }
+haltOf stop.Reported = record { ends = false; told = false; refusal = 0 }
 haltOf stop.Told = record { ends = false; told = true; refusal = 0 }
 
 -- the output ends where the input has ended, and at a refusal that more bytes would not change

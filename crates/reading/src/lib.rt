@@ -20,7 +20,7 @@ struct Reading {
     frames: u64,
 }
 
-// What the stop of a run says: whether it ends the turn, whether a record was told (or else a second closed), and the refusal (0: none).
+// What the stop of a run says: whether it ends the turn, whether a record was told (or else a second reported), and the refusal (0: none).
 struct Halt {
     ends: bool,
     told: bool,
@@ -63,7 +63,7 @@ fn halt_of(stop: Stop) -> Halt
             told: false,
             refusal: number,
         },
-        Stop::Closed => Halt {
+        Stop::Reported => Halt {
             ends: false,
             told: false,
             refusal: 0,
@@ -91,7 +91,7 @@ fn goes_on(refusal: u8) -> bool
 fn turn(from: Reading, s: &[u8], ended: bool, out: &mut [u8]) -> Turned
     requires { ⌜ Sound from ⌝ }
     requires { ⌜ length (now s) ≤ 4096 ⌝ }
-    requires { ⌜ 948312 ≤ length (now out) ⌝ }
+    requires { ⌜ 949238 ≤ length (now out) ⌝ }
     ensures { λ r. ⌜ (r ≡ turnOf from (now (s .entry)) ended) × (now (out .exit) ≡ over (now (out .entry)) 0 (writtenOf from (now (s .entry)) ended)) ⌝ }
 {
     let mut at = 0;
@@ -110,8 +110,7 @@ fn turn(from: Reading, s: &[u8], ended: bool, out: &mut [u8]) -> Turned
             let more = goes_on(h.refusal);
             let done = ended | !more;
             let offset = from.at + wide(at);
-            let marks = state.sup.base.seconds;
-            let last = lines::last_lines(done, h.refusal, offset, marks, frames, out, put);
+            let last = lines::last_lines(done, state, h.refusal, offset, frames, out, put);
             return Turned {
                 reading: Reading {
                     tell: from.tell,
@@ -127,7 +126,7 @@ fn turn(from: Reading, s: &[u8], ended: bool, out: &mut [u8]) -> Turned
         if h.told {
             put = lines::told_line(was, state, frames, out, put);
         } else {
-            put = lines::closed_line(state, out, put);
+            put = lines::reported_line(state, out, put);
         }
     }
 }
@@ -160,7 +159,7 @@ fn refill(from: Refilled, buf: &mut [u8], out: &mut [u8]) -> Refilled
     requires { ⌜ Sound (from .reading) ⌝ }
     requires { ⌜ from .held < 83 ⌝ }
     requires { ⌜ length (now buf) ≡ 4096 ⌝ }
-    requires { ⌜ 948312 ≤ length (now out) ⌝ }
+    requires { ⌜ 949238 ≤ length (now out) ⌝ }
     ensures { λ r. ⌜ Refill (from .reading) (from .held) (now (buf .entry)) (now (buf .exit)) (now (out .entry)) (now (out .exit)) r ⌝ }
 {
     let reading = from.reading;
@@ -202,7 +201,7 @@ fn started(tell: bool) -> Refilled
 // frames.
 fn pump(tell: bool, buf: &mut [u8], out: &mut [u8])
     requires { ⌜ length (now buf) ≡ 4096 ⌝ }
-    requires { ⌜ 948312 ≤ length (now out) ⌝ }
+    requires { ⌜ 949238 ≤ length (now out) ⌝ }
 {
     let mut r = started(tell);
     let mut ended = false;
@@ -212,7 +211,7 @@ fn pump(tell: bool, buf: &mut [u8], out: &mut [u8])
     }
 }
 
-// Room for the lines that 4,096 bytes of input can give: 1,024 seconds and the last two.
+// Room for the lines that 4,096 bytes of input can give: 1,024 seconds, the pending one, and the last two.
 fn text_buffer() -> [u8; 1048576]
     ensures { λ r. ⌜ 1048576 ≡ length r ⌝ }
 {

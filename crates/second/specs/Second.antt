@@ -73,8 +73,8 @@ countOf c d o sm pm = record {
   biae = c .biae || d .section .biae;
 }
 
--- "If section dIAE stood in any frame, the section's four values of that second become 0 and false; if dBIAE, its two far values.
--- Departure: G.798 discards the second before as well; we don't." (13.2.1.2)
+-- "If section dIAE stood in any frame, the section's four values of that second become 0 and false; if dBIAE, its two far values." (13.2.1.2)
+-- The second before is discarded too, when it is reported (document 02, K3; crate late).
 unfoldable pub discardOf : Blocks → Bool → Bool → Blocks
 discardOf b iae biae = record {
   near = cond iae (record { 0 = 0 }) (b .near);

@@ -187,7 +187,7 @@ fn flag_of(b: bool) -> u32
     b as u32
 }
 
-// The twenty figures of a line S.
+// The twenty figures of a second.
 pub fn figures(number: u32, c: Second) -> [u32; 20]
     ensures { λ r. ⌜ r ≡ figuresOf number c ⌝ }
 {

@@ -127,11 +127,11 @@ module _ (p : Settings) (v : SettingsIn p) (n : ℕ) (o : Options) (ready : Read
   unfolding levelCount blocksOf
   far-ds-is = stood (λ c. c .blocks .fards) (λ d. d .bdi) (farDs p n o) refl (λ c d bei count. refl) (λ h f. refl)
 
-  iae-is : (h : List LevelEvent) → own p n o h .second .iae ≡ discarded p n o h
+  pub iae-is : (h : List LevelEvent) → own p n o h .second .iae ≡ discarded p n o h
   unfolding levelCount
   iae-is = stood (λ c. c .iae) (λ d. d .iae) (λ f l. dIAE p n o (f ∷ l)) refl (λ c d bei count. refl) (λ h f. refl)
 
-  biae-is : (h : List LevelEvent) → own p n o h .second .biae ≡ some (λ f l. dBIAE p n o (f ∷ l)) (plainly h)
+  pub biae-is : (h : List LevelEvent) → own p n o h .second .biae ≡ some (λ f l. dBIAE p n o (f ∷ l)) (plainly h)
   unfolding levelCount
   biae-is = stood (λ c. c .biae) (λ d. d .biae) (λ f l. dBIAE p n o (f ∷ l)) refl (λ c d bei count. refl) (λ h f. refl)
 

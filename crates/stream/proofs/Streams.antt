@@ -15,7 +15,7 @@ use Rattle.stream.specs.Stream.{Note, Scan, before, stopped, noted, scan
 use Rattle.trace.specs.declared.State.{State}
 use Rattle.trace.specs.declared.Taken.{Taken}
 use Rattle.record.proofs.Records.{records-next}
-use Rattle.trace.proofs.Scans.{sized, taken-append, some-bytes, some-left, run-end, run-refused, run-closed, run-told, run-on}
+use Rattle.trace.proofs.Scans.{sized, taken-append, some-bytes, some-left, run-end, run-refused, run-reported, run-told, run-on}
 
 resume-before : (tell : Bool) (l : List Note) (c : Scan) (ys : List ℕ) → resume tell (before l c) ys ≡ before l (resume tell c ys)
 unfolding resume
@@ -89,13 +89,13 @@ pub scan-on : (tell : Bool) (ys : List ℕ) (at n : ℕ) (st : State) → takenO
 unfolding scanOver
 scan-on tell ys at n st e = rw (records-next ys (some-bytes st ys e), eq-eqb _ _ e)
 
--- What holds of a run at each position of s, if it does at later ones: the end, a refusal, a second closed, and on.
+-- What holds of a run at each position of s, if it does at later ones: the end, a refusal, a second reported, and on.
 module _ (s : List ℕ) (P : ℕ → ℕ → State → Type 0)
     (end : (at n : ℕ) (st : State) → length s ≤ at → P at n st)
     (refused : (at n : ℕ) (st : State) → at < length s → (takenOf st (drop at s) .refusal ≡ 0 → ⊥) → P at n st)
-    (closed : (at n : ℕ) (st : State) → at < length s → takenOf st (drop at s) .refusal ≡ 0 → takenOf st (drop at s) .closed ≡ true
+    (reported : (at n : ℕ) (st : State) → at < length s → takenOf st (drop at s) .refusal ≡ 0 → takenOf st (drop at s) .told ≡ true
     → P (at + sizeOf (recordOf (drop at s))) (n + framesIn (recordOf (drop at s))) (takenOf st (drop at s) .state) → P at n st)
-    (on : (at n : ℕ) (st : State) → at < length s → takenOf st (drop at s) .refusal ≡ 0 → takenOf st (drop at s) .closed ≡ false
+    (on : (at n : ℕ) (st : State) → at < length s → takenOf st (drop at s) .refusal ≡ 0 → takenOf st (drop at s) .told ≡ false
     → P (at + sizeOf (recordOf (drop at s))) (n + framesIn (recordOf (drop at s))) (takenOf st (drop at s) .state) → P at n st) where
   step : (at n : ℕ) (st : State) → ((p m : ℕ) (u : State) → at < p → p ≤ length s → P p m u) → P at n st
   step at n st ih = by-end (ltb at (length s)) refl
@@ -108,12 +108,12 @@ module _ (s : List ℕ) (P : ℕ → ℕ → State → Type 0)
           let z = sized st (drop at s) e in
           ih (at + sizeOf (recordOf (drop at s))) (n + framesIn (recordOf (drop at s))) (t .state) (omega (arith, z .some)) (omega (arith, simp length-drop at (z .long)))
 
-      by-closed : (b : Bool) → at < length s → t .refusal ≡ 0 → t .closed ≡ b → P at n st
-      by-closed true l e c = closed at n st l e c (next e)
-      by-closed false l e c = on at n st l e c (next e)
+      by-told : (b : Bool) → at < length s → t .refusal ≡ 0 → t .told ≡ b → P at n st
+      by-told true l e c = reported at n st l e c (next e)
+      by-told false l e c = on at n st l e c (next e)
 
       by-refused : (b : Bool) → at < length s → eqb (t .refusal) 0 ≡ b → P at n st
-      by-refused true l p = by-closed (t .closed) l (eqb-true (t .refusal) 0 p) refl
+      by-refused true l p = by-told (t .told) l (eqb-true (t .refusal) 0 p) refl
       by-refused false l p = refused at n st l (eqb-false (t .refusal) 0 p)
 
       by-end : (b : Bool) → ltb at (length s) ≡ b → P at n st
@@ -132,7 +132,7 @@ module _ (tell : Bool) (s : List ℕ) (base m : ℕ) where
   abbrev From : ℕ → ℕ → State → Scan
   From at n st = scanFrom tell (drop at s) (base + at) (m + n) st
 
-  -- where the run ends, meets a refusal, or closes a second, whatever state it began in
+  -- where the run ends, meets a refusal, or reports a second, whatever state it began in
   agree-end : (u : State) (at n : ℕ) (st : State) → length s ≤ at → From at n st ≡ scanAfter tell base m u s (runOf tell s at n st)
   unfolding scanAfter scanOver recordsFrom
   agree-end u at n st l = rw (run-end tell s at n st l, drop-of-length-le s l)
@@ -141,11 +141,11 @@ module _ (tell : Bool) (s : List ℕ) (base m : ℕ) where
   unfolding scanAfter
   agree-refused u at n st l z = rw (run-refused (drop at s) at n st tell (some-left s at l) z, scan-refused tell (drop at s) (base + at) (m + n) st (some-left s at l) z)
 
-  agree-closed : (u : State) (at n : ℕ) (st : State) → at < length s → takenOf st (drop at s) .refusal ≡ 0 → takenOf st (drop at s) .closed ≡ true
+  agree-reported : (u : State) (at n : ℕ) (st : State) → at < length s → takenOf st (drop at s) .refusal ≡ 0 → takenOf st (drop at s) .told ≡ true
       → From at n st ≡ scanAfter tell base m u s (runOf tell s at n st)
   unfolding scanAfter
-  agree-closed u at n st l e c =
-      rw (run-closed (drop at s) at n st e tell c, scan-on tell (drop at s) (base + at) (m + n) st e, c, drop-drop (sizeOf (recordOf (drop at s))) at s, add-assoc, add-assoc)
+  agree-reported u at n st l e c =
+      rw (run-reported (drop at s) at n st e tell c, scan-on tell (drop at s) (base + at) (m + n) st e, c, drop-drop (sizeOf (recordOf (drop at s))) at s, add-assoc, add-assoc)
 
 module _ (s : List ℕ) (base m : ℕ) where
   -- records that are not told: the run goes on over them
@@ -153,7 +153,7 @@ module _ (s : List ℕ) (base m : ℕ) where
   agree-quiet u =
       along s (λ at n st. scanFrom false (drop at s) (base + at) (m + n) st ≡ scanAfter false base m u s (runOf false s at n st))
       (agree-end false s base m u) (agree-refused false s base m u)
-      (λ at n st l e c _. agree-closed false s base m u at n st l e c)
+      (λ at n st l e c _. agree-reported false s base m u at n st l e c)
       (λ at n st l e c h. rw (run-on (drop at s) at n st e c, scan-on false (drop at s) (base + at) (m + n) st e, c, drop-drop (sizeOf (recordOf (drop at s))) at s, add-assoc, add-assoc) h)
 
   -- records that are told, one at a time
@@ -162,7 +162,7 @@ module _ (s : List ℕ) (base m : ℕ) where
   agree-told =
       along s (λ at n st. scanFrom true (drop at s) (base + at) (m + n) st ≡ scanAfter true base m st s (runOf true s at n st))
       (λ at n st. agree-end true s base m st at n st) (λ at n st. agree-refused true s base m st at n st)
-      (λ at n st l e c _. agree-closed true s base m st at n st l e c)
+      (λ at n st l e c _. agree-reported true s base m st at n st l e c)
       (λ at n st l e c _. rw (run-told (drop at s) at n st e c, scan-on true (drop at s) (base + at) (m + n) st e, c, drop-drop (sizeOf (recordOf (drop at s))) at s, add-assoc, add-assoc))
 
   pub agree : (tell : Bool) (at n : ℕ) (st : State) → scanFrom tell (drop at s) (base + at) (m + n) st ≡ scanAfter tell base m st s (runOf tell s at n st)

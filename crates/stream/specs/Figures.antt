@@ -1,28 +1,26 @@
 -- Demand 3 for the reader: all that is told of a trace, in its order, by the trace's own records. Assumes nothing.
-use Prim.Native.Nat.{ℕ, _+_}
+use Prim.Native.Nat.{ℕ, _+_, _≤_}
 use mathlib.Core.Path.{_≡_}
 use mathlib.Core.Bool.{Bool, true, false, cond}
 use mathlib.Core.List.{List, [], _∷_, _++_, map}
 use lib.Dec.{eqb}
 use lib.ListN.{getD, take, drop}
 use Rattle.causes.specs.Causes.{nothingStands}
-use Rattle.history.specs.History.{Frame as Sent, Event, frame, mark, standsAt, eventOf, after, Accepted}
-use Rattle.history.specs.Ledger.{Demand3, lineFigures, marks as marksAmong}
+use Rattle.history.specs.History.{Frame as Sent, Event, frame, mark, standsAt, Accepted}
+use Rattle.history.specs.Ledger.{Demand3, marks as marksAmong}
 use Rattle.supervisor.specs.Supervisor.{freshOf}
 use Rattle.settings.specs.declared.Settings.{Settings}
-use Rattle.supervisor.specs.declared.Supervisor.{Supervisor}
-use Rattle.tandem.specs.Levels.{fourOf}
-use Rattle.tandem.specs.Tandem.{freshTandem, markedOf}
-use Rattle.tandem.specs.declared.Level.{Level as TandemLevel}
-use Rattle.tandem.specs.declared.Tandem.{Tandem}
-use Rattle.watch.specs.Watch.{LevelCall, gives, records, frames, marks, framedAt, tandemBy, AllTaken, eventsAmong}
+use Rattle.tandem.specs.Tandem.{freshTandem}
+use Rattle.watch.specs.Watch.{LevelCall, gives, records, frames, marks, framedAt, AllTaken, eventsAmong}
+use Rattle.late.specs.Late.{freshLate, lateMarked}
+use Rattle.reports.specs.Reports.{lateBy, marksIn, secondAt, upTo, LineDemand3}
 use Rattle.record.specs.declared.Record.{Record}
 use Rattle.record.specs.declared.Record.the-variants.{Frame, Mark, Provisioning, Level, LevelFrame, Refused}
 use Rattle.trace.specs.declared.State.{State}
 use Rattle.trace.specs.declared.Taken.{Taken}
 use Rattle.record.specs.Record.{kindOf, recordOf, recordsOf, bodyOf, framesIn, levelIn}
 use Rattle.trace.specs.Scan.{startOf, takenOf, noCounts, countsIn}
-use Rattle.stream.specs.Stream.{Note, second, change, lastListed, Scan, scanOf}
+use Rattle.stream.specs.Stream.{Note, second, change, listedIn, lastListed, pendingListed, Scan, scanOf}
 
 -- a frame's own bytes and counts, by its body
 abbrev pub sentIn : List ℕ → Sent
@@ -64,7 +62,7 @@ kindIn xs = kindOver (recordsOf xs)
 
 -- the settings of its provisioning, which is its first record
 abbrev pub settingsIn : List ℕ → Settings
-settingsIn xs = takenOf startOf xs .state .sup .base .settings
+settingsIn xs = takenOf startOf xs .state .sup .tandem .base .settings
 
 -- how many frames are among events
 abbrev pub framesAmong : List Event → ℕ
@@ -78,38 +76,38 @@ provisioned p =
     record {
       begun = true;
       kind = 0;
-      sup = freshTandem (freshOf p);
+      sup = freshLate (freshTandem (freshOf p));
       last = startOf .last;
       standing = nothingStands;
       levels = startOf .levels;
     }
 
--- The state after each call that is accepted, k being the kind of the trace's frames: the supervisor is the one handed back; a frame leaves what stands
--- after it of line, section and path and of the levels, a mark its figures.
+-- The state after each call that is accepted, k being the kind of the trace's frames: the supervisor, with its pending second, is the one handed back; a frame
+-- leaves what stands after it of line, section and path and of the levels, a mark its figures.
 abbrev pub afterCall : ℕ → State → LevelCall → State
 afterCall k st (gives n r names) =
-    record { begun = true; kind = st .kind; sup = tandemBy (st .sup) (gives n r names); last = st .last; standing = st .standing; levels = st .levels }
+    record { begun = true; kind = st .kind; sup = lateBy (st .sup) (gives n r names); last = st .last; standing = st .standing; levels = st .levels }
 afterCall k st (records n r names) =
-    record { begun = true; kind = st .kind; sup = tandemBy (st .sup) (records n r names); last = st .last; standing = st .standing; levels = st .levels }
+    record { begun = true; kind = st .kind; sup = lateBy (st .sup) (records n r names); last = st .last; standing = st .standing; levels = st .levels }
 afterCall k st (frames f counts) =
     record {
       begun = true;
       kind = k;
-      sup = tandemBy (st .sup) (frames f counts);
+      sup = lateBy (st .sup) (frames f counts);
       last = st .last;
-      standing = standsAt (st .sup .base) f;
-      levels = framedAt (st .sup) f counts .stands;
+      standing = standsAt (st .sup .tandem .base) f;
+      levels = framedAt (st .sup .tandem) f counts .stands;
     }
 afterCall k st marks =
-    record { begun = true; kind = st .kind; sup = tandemBy (st .sup) marks; last = markedOf (st .sup) .figures; standing = st .standing; levels = st .levels }
+    record { begun = true; kind = st .kind; sup = lateBy (st .sup) marks; last = lateMarked (st .sup) .figures; standing = st .standing; levels = st .levels }
 
--- What a call tells: a mark the figures of its second's line; any other, where every record is told, the number of frames accepted with it, and the
--- states before and after it.
+-- What a call tells: a mark that reports a second the figures of its line ("The first mark reports nothing"); any other, where every record is told, the number
+-- of frames accepted with it, and the states before and after it.
 abbrev pub noteOf : Bool → ℕ → State → State → LevelCall → List Note
 noteOf tell n was is (gives m r names) = cond tell (change n was is ∷ []) []
 noteOf tell n was is (records m r names) = cond tell (change n was is ∷ []) []
 noteOf tell n was is (frames f counts) = cond tell (change n was is ∷ []) []
-noteOf tell n was is marks = second (lastListed is) ∷ []
+noteOf tell n was is marks = cond (lateMarked (was .sup) .told) (second (lastListed is) ∷ []) (cond tell (change n was is ∷ []) [])
 
 -- what calls tell from a state on, n frames being accepted before them
 unfoldable pub toldBy : Bool → ℕ → ℕ → State → List LevelCall → List Note
@@ -128,40 +126,28 @@ figuresTold [] = []
 figuresTold (second f ∷ ns) = f ∷ figuresTold ns
 figuresTold (change n b a ∷ ns) = figuresTold ns
 
--- The figures of the lines S of events, in their order and by the frames alone: the open second has the number n, it began with the supervisor s,
--- and fs are its frames so far.
-unfoldable pub linesFrom : ℕ → Supervisor → List Sent → List Event → List (List ℕ)
-linesFrom n s fs [] = []
-linesFrom n s fs (frame f ∷ es) = linesFrom n s (fs ++ (f ∷ [])) es
-linesFrom n s fs (mark ∷ es) = lineFigures n s fs ∷ linesFrom (n + 1) (eventOf (after s (map frame fs)) mark) [] es
+-- The figures of all lines S of a scan, in their order: those of the marks, and at the end "the pending second, if there is one" (document 02, K3).
+abbrev pub linesIn : Scan → List (List ℕ)
+linesIn c = figuresTold (c .told) ++ pendingListed (c .state)
 
--- "the four figures of every provisioned level, lowest level first"
-unfoldable pub givenFigures : List TandemLevel → List ℕ
-givenFigures [] = []
-givenFigures (l ∷ ls) = cond (l .given) (fourOf l) [] ++ givenFigures ls
-
--- the levels' figures in the lines S of calls, in their order, by the levels that the calls before each mark hand back
-unfoldable pub groupsFrom : Tandem → List LevelCall → List (List ℕ)
-groupsFrom t [] = []
-groupsFrom t (gives n r names ∷ cs) = groupsFrom (tandemBy t (gives n r names)) cs
-groupsFrom t (records n r names ∷ cs) = groupsFrom (tandemBy t (records n r names)) cs
-groupsFrom t (frames f counts ∷ cs) = groupsFrom (tandemBy t (frames f counts)) cs
-groupsFrom t (marks ∷ cs) = givenFigures (t .levels) ∷ groupsFrom (tandemBy t marks) cs
+-- The same by the calls alone: seconds 1 to as many as there are marks, each with the discards of its own second and of the one behind it where that is closed.
+abbrev pub secondsOf : Settings → List LevelCall → List (List ℕ)
+secondsOf p cs = map (secondAt p cs) (upTo (marksIn cs))
 
 -- Demand 3 for the reader, of every trace: its calls up to the first record refused are accepted, and so are their frames and marks by line, section and
--- path alone; all that its scan tells, in its order, is what they tell; the first twenty of the figures told are those of the lines S by the frames and
--- marks alone, a line for each mark; the levels' follow them; and each mark closes a second as demand 3 says.
+-- path alone; all that its scan tells, in its order, is what they tell; each second that a mark closes has its line, once and in order, with the figures that the
+-- calls alone say, of line, section and path and of the provisioned levels; each line is as demand 3 says, and each mark closes a second as demand 3 says.
 pub record ReaderDemand3 (tell : Bool) (xs : List ℕ) : Type 0 where
   pub calls : AllTaken (freshTandem (freshOf (settingsIn xs))) (callsOf xs)
   pub accepted : Accepted (freshOf (settingsIn xs)) (eventsOf xs)
   pub told : scanOf tell xs .told ≡ toldFirst tell xs ++ toldBy tell (kindIn xs) 0 (provisioned (settingsIn xs)) (callsOf xs)
-  pub figures : map (take 20) (figuresTold (scanOf tell xs .told)) ≡ linesFrom 1 (freshOf (settingsIn xs)) [] (eventsOf xs)
-  pub levels : map (drop 20) (figuresTold (scanOf tell xs .told)) ≡ groupsFrom (freshTandem (freshOf (settingsIn xs))) (callsOf xs)
+  pub figures : linesIn (scanOf tell xs) ≡ map (listedIn (scanOf tell xs .state)) (secondsOf (settingsIn xs) (callsOf xs))
+  pub lines : (i : ℕ) → 1 ≤ i → i ≤ marksIn (callsOf xs) → LineDemand3 (secondAt (settingsIn xs) (callsOf xs) i)
   pub demand : (earlier later : List Event) → eventsOf xs ≡ earlier ++ (mark ∷ later) → Demand3 (settingsIn xs) earlier
 
 -- "E: marks and frames accepted": a scan counts the marks and the frames accepted.
 pub record ReaderCounts (tell : Bool) (xs : List ℕ) : Type 0 where
-  pub marks : scanOf tell xs .state .sup .base .seconds ≡ marksAmong (eventsOf xs)
+  pub marks : scanOf tell xs .state .sup .tandem .base .seconds ≡ marksAmong (eventsOf xs)
   pub frames : scanOf tell xs .frames ≡ framesAmong (eventsOf xs)
 
 -- of what was told, the seconds

@@ -1,8 +1,8 @@
--- The scan of a whole trace, and the scan of it in pieces (document 01, "Trace records and the listing"; document 02, K1). Assumes nothing.
+-- The scan of a whole trace, and the scan of it in pieces (document 01, "Trace records and the listing"; document 02, K1, K3). Assumes nothing.
 use Prim.Native.Nat.{ℕ, _+_}
 use mathlib.Core.Path.{_≡_}
 use mathlib.Core.Bool.{Bool, true, cond}
-use mathlib.Core.List.{List, [], _∷_, _++_}
+use mathlib.Core.List.{List, [], _∷_, _++_, map}
 use lib.Dec.{eqb}
 use lib.ListN.{drop}
 use Rattle.record.specs.declared.Record.{Record}
@@ -13,15 +13,23 @@ use Rattle.trace.specs.declared.Stop.the-variants as stop
 use Rattle.trace.specs.declared.State.{State}
 use Rattle.record.specs.Record.{recordOf, recordsOf, sizeOf, framesIn}
 use Rattle.tandem.specs.Levels.{listedOf}
+use Rattle.reports.specs.Reports.{endTells}
 use Rattle.trace.specs.Scan.{takenOf, startOf}
 
--- The figures of the S line of the second that was closed last: "Each S line gains the four figures of every provisioned level, lowest level
--- first" (document 02, K1).
-abbrev pub lastListed : State → List ℕ
-lastListed st = listedOf (st .sup .levels) (st .last)
+-- The figures of an S line, of the 44 of a second: "Each S line gains the four figures of every provisioned level, lowest level first" (document
+-- 02, K1).
+abbrev pub listedIn : State → List ℕ → List ℕ
+listedIn st figures = listedOf (st .sup .tandem .levels) figures
 
--- What is told of an accepted record: the figures of the line of the second that it closed; or, where every record is told, the number of frames accepted
--- with it, and the states before and after it.
+-- those of the second that was reported last; and of the pending one, if there is one, which is told at the end of a scan (document 02, K3)
+abbrev pub lastListed : State → List ℕ
+lastListed st = listedIn st (st .last)
+
+abbrev pub pendingListed : State → List (List ℕ)
+pendingListed st = map (listedIn st) (endTells (st .sup))
+
+-- What is told of an accepted record: the figures of the line of the second that was reported with it; or, where every record is told, the number of frames
+-- accepted with it, and the states before and after it.
 pub data Note : Type 0 where
   second : List ℕ → Note
   change : ℕ → State → State → Note
@@ -46,7 +54,7 @@ before l c = record { told = l ++ c .told; state = c .state; at = c .at; frames 
 
 -- what is told of an accepted record, n frames being accepted with it, and the state before it being st
 abbrev pub noted : Bool → ℕ → State → Taken → List Note
-noted tell n st t = cond (t .closed) (second (lastListed (t .state)) ∷ []) (cond tell (change n st (t .state) ∷ []) [])
+noted tell n st t = cond (t .told) (second (lastListed (t .state)) ∷ []) (cond tell (change n st (t .state) ∷ []) [])
 
 -- The scan of records at an offset, n frames before it. "The scan ends at the first record refused."
 unfoldable pub scanOver : Bool → List (List ℕ) → ℕ → ℕ → State → Scan
@@ -105,5 +113,5 @@ scanAfter tell base n st s r = by-stop (r .stop)
     by-stop : Stop → Scan
     by-stop stop.More = stopped (r .state) (base + r .at) (n + r .frames) 0 (drop (r .at) s)
     by-stop (stop.Refused number offset) = stopped (r .state) (base + offset) (n + r .frames) number (drop offset s)
-    by-stop stop.Closed = before (second (lastListed (r .state)) ∷ []) on
+    by-stop stop.Reported = before (second (lastListed (r .state)) ∷ []) on
     by-stop stop.Told = before (change (n + r .frames) st (r .state) ∷ []) on

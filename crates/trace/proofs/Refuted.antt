@@ -10,9 +10,11 @@ use borrow.Fn.Kinds.{Dens, endedOf}
 use denote.Triple.Clauses.{AtExit}
 use denote.Ref.{now}
 use Rattle.settings.specs.Settings.{settingsRefusal, thrGood, ceilingOf, degmGood}
-use Rattle.supervisor.specs.Supervisor.{provisionOf}
+use Rattle.supervisor.specs.Supervisor.{provisionOf, markOf}
+use Rattle.supervisor.specs.declared.Supervisor.{Supervisor}
 use Rattle.tandem.specs.Tandem.{recordRefusal, givenBy, frameRefusal}
 use Rattle.tandem.specs.Tandem as tandem
+use Rattle.late.specs.Late.{lateMarked}
 use Rattle.record.specs.Record.{recordOf, ofKind, recordsFrom}
 use Rattle.trace.specs.declared.State.{State}
 use Rattle.trace.specs.declared.Run.{Run}
@@ -24,7 +26,7 @@ use Rattle.trace.proofs.start.Reads as start-reads
 use Rattle.trace.proofs.scan.Kinds as scan-kinds
 use Rattle.trace.proofs.scan.Reads as scan-reads
 
--- a scan starts with no second closed
+-- a scan starts with no second reported
 pub starts-with-figures : (κs : Lfts 0) (s : AtExit (endedOf 0 start-kinds.ps start-kinds.r) κs) (y : State) → start-reads.Post κs tt y s → y .last ≡ replicate 44 1 → ⊥
 starts-with-figures κs s y e f =
     let h : _≡_ {A = ℕ} 1 0 = ap (λ (l : List ℕ). getD l 0 0) (sym f ∙ ap (λ (x : State). x .last) e) in
@@ -39,21 +41,27 @@ one-provisioning = (81 ∷ 0 ∷ 3 ∷ 0 ∷ 1 ∷ 1 ∷ 0 ∷ 0 ∷ 0 ∷ 2 ∷
 
 abbrev offsetIn : Stop → ℕ
 offsetIn stop.More = 0
-offsetIn stop.Closed = 0
+offsetIn stop.Reported = 0
 offsetIn stop.Told = 0
 offsetIn (stop.Refused number offset) = offset
 
 abbrev numberIn : Stop → ℕ
 numberIn stop.More = 0
-numberIn stop.Closed = 0
+numberIn stop.Reported = 0
 numberIn stop.Told = 0
 numberIn (stop.Refused number offset) = number
 
 abbrev toldIn : Stop → ℕ
 toldIn stop.More = 0
-toldIn stop.Closed = 0
+toldIn stop.Reported = 0
 toldIn stop.Told = 1
 toldIn (stop.Refused number offset) = 0
+
+abbrev reportedIn : Stop → ℕ
+reportedIn stop.More = 0
+reportedIn stop.Reported = 1
+reportedIn stop.Told = 0
+reportedIn (stop.Refused number offset) = 0
 
 -- scanned from the start, with no record told
 module _ (κs : Lfts 1) (a : Dens κs scan-kinds.ps) (s : AtExit (endedOf 1 scan-kinds.ps scan-kinds.r) κs) (y : Run) (e : scan-reads.Post κs a y s)
@@ -76,10 +84,10 @@ module _ (κs : Lfts 1) (a : Dens κs scan-kinds.ps) (s : AtExit (endedOf 1 scan
       omega arith
 
   -- the section is provisioned before the path
-  pub layers-swapped : now (a .1 .1 .0) ≡ one-provisioning → y .state .sup .base .settings .section .thr ≡ 2 → ⊥
+  pub layers-swapped : now (a .1 .1 .0) ≡ one-provisioning → y .state .sup .tandem .base .settings .section .thr ≡ 2 → ⊥
   unfolding runOver recordsFrom takenOf recordOf ofKind provisionedOf answeredOf provisionOf settingsRefusal thrGood ceilingOf degmGood
   layers-swapped b f =
-      let h : _≡_ {A = ℕ} 2 1 = sym f ∙ ap (λ (r : Run). r .state .sup .base .settings .section .thr) (is one-provisioning b) in
+      let h : _≡_ {A = ℕ} 2 1 = sym f ∙ ap (λ (r : Run). r .state .sup .tandem .base .settings .section .thr) (is one-provisioning b) in
       omega arith
 
 -- level 7 with DEGM 0; a frame of kind 1 with a section count of 9; and one of kind 5 with flags 4
@@ -128,4 +136,38 @@ module _ (κs : Lfts 1) (a : Dens κs scan-kinds.ps) (s : AtExit (endedOf 1 scan
   unfolding runOver recordsFrom takenOf recordOf ofKind framedOf steppedOf answeredOf tandem.framedOf frameRefusal
   refused-settles st b f =
       let h : _≡_ {A = ℕ} 5 0 = sym f ∙ ap (λ (r : Run). r .state .kind) (on 0 κs a s y e quiet from st level-frame-flags b) in
+      omega arith
+
+-- one second is closed, and pending with a frame
+abbrev pub one-closed : State
+one-closed = record {
+  begun = true;
+  kind = 0;
+  sup = record {
+    tandem = record { base = record { settings = base .settings; layers = base .layers; second = base .second; seconds = 1 }; flags = 0; levels = startOf .sup .tandem .levels };
+    pending = 1 ∷ replicate 42 0;
+  };
+  last = startOf .last;
+  standing = startOf .standing;
+  levels = startOf .levels;
+}
+  where
+    base : Supervisor
+    base = startOf .sup .tandem .base
+
+module _ (κs : Lfts 1) (a : Dens κs scan-kinds.ps) (s : AtExit (endedOf 1 scan-kinds.ps scan-kinds.r) κs) (y : Run) (e : scan-reads.Post κs a y s)
+    (quiet : a .0 ≡ false) (from : a .1 .1 .1 .0 ≡ 0) (b : now (a .1 .1 .0) ≡ one-mark) where
+  -- the first mark reports nothing
+  pub first-reports : a .1 .0 ≡ met 0 → y .stop ≡ stop.Reported → ⊥
+  unfolding runOver recordsFrom takenOf recordOf ofKind markedOf answeredOf lateMarked tandem.markedOf markOf
+  first-reports st f =
+      let h : _≡_ {A = ℕ} 1 0 = ap reportedIn (sym f ∙ ap (λ (r : Run). r .stop) (on 0 κs a s y e quiet from st one-mark b)) in
+      omega arith
+
+  -- a mark reports the second closed before it, not the one that it closes
+  pub own-reported : a .1 .0 ≡ one-closed → getD (y .state .last) 0 0 ≡ 2 → ⊥
+  unfolding runOver recordsFrom takenOf recordOf ofKind markedOf answeredOf lateMarked tandem.markedOf markOf
+  own-reported st f =
+      let is : y ≡ runOf false one-mark 0 0 one-closed = e ∙ rw (quiet, st, from, b) in
+      let h : _≡_ {A = ℕ} 2 1 = sym f ∙ ap (λ (r : Run). getD (r .state .last) 0 0) is in
       omega arith

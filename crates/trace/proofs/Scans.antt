@@ -62,7 +62,7 @@ taken-append st zs ys n =
     let e : recordOf (zs ++ ys) ≡ recordOf zs = record-append zs ys (λ z. n (ap (λ (r : Record). appliedOf st r (bodyOf (recordOf zs) zs) .refusal) z)) in
     (ap (λ (r : Record). appliedOf st r (bodyOf r (zs ++ ys))) e ∙ by-good st zs ys (recordOf zs) (whole-record zs), e)
 
--- the run at a list: its end, a refusal, a second closed, a record told, and on
+-- the run at a list: its end, a refusal, a second reported, a record told, and on
 pub run-end : (tell : Bool) (s : List ℕ) (at n : ℕ) (st : State) → length s ≤ at → runOf tell s at n st ≡ record { at = at; frames = n; stop = stop.More; state = st }
 unfolding runOver recordsFrom
 run-end tell s at n st h = rw (drop-of-length-le s h)
@@ -74,17 +74,17 @@ module _ (ys : List ℕ) (at n : ℕ) (st : State) where
   run-refused tell h z = rw (records-next ys h, ne-eqb _ _ z)
 
   module _ (e : takenOf st ys .refusal ≡ 0) where
-    pub run-closed : (tell : Bool) → takenOf st ys .closed ≡ true
-        → runOver tell (recordsOf ys) at n st ≡ record { at = at + sizeOf (recordOf ys); frames = n + framesIn (recordOf ys); stop = stop.Closed; state = takenOf st ys .state }
+    pub run-reported : (tell : Bool) → takenOf st ys .told ≡ true
+        → runOver tell (recordsOf ys) at n st ≡ record { at = at + sizeOf (recordOf ys); frames = n + framesIn (recordOf ys); stop = stop.Reported; state = takenOf st ys .state }
     unfolding runOver
-    run-closed tell c = rw (records-next ys (some-bytes st ys e), eq-eqb _ _ e, c)
+    run-reported tell c = rw (records-next ys (some-bytes st ys e), eq-eqb _ _ e, c)
 
-    pub run-told : takenOf st ys .closed ≡ false
+    pub run-told : takenOf st ys .told ≡ false
         → runOver true (recordsOf ys) at n st ≡ record { at = at + sizeOf (recordOf ys); frames = n + framesIn (recordOf ys); stop = stop.Told; state = takenOf st ys .state }
     unfolding runOver
     run-told c = rw (records-next ys (some-bytes st ys e), eq-eqb _ _ e, c)
 
-    pub run-on : takenOf st ys .closed ≡ false
+    pub run-on : takenOf st ys .told ≡ false
         → runOver false (recordsOf ys) at n st ≡ runOver false (recordsOf (drop (sizeOf (recordOf ys)) ys)) (at + sizeOf (recordOf ys)) (n + framesIn (recordOf ys)) (takenOf st ys .state)
     unfolding runOver
     run-on c = rw (records-next ys (some-bytes st ys e), eq-eqb _ _ e, c)
@@ -110,13 +110,13 @@ module _ (tell : Bool) (s : List ℕ) (at n : ℕ) (st : State) (r : Record) (er
         let z = sized st (drop at s) (rw taken-is at e) in
         rw er (z .some, omega (arith, simp length-drop at (z .long)), z .one)
 
-    pub closed : t .refusal ≡ 0 → t .closed ≡ true → runOf tell s at n st ≡ record { at = at + sizeOf r; frames = n + framesIn r; stop = stop.Closed; state = t .state }
-    closed e c = rw (taken-is, er) (run-closed (drop at s) at n st (rw taken-is at e) tell (rw taken-is at c))
+    pub reported : t .refusal ≡ 0 → t .told ≡ true → runOf tell s at n st ≡ record { at = at + sizeOf r; frames = n + framesIn r; stop = stop.Reported; state = t .state }
+    reported e c = rw (taken-is, er) (run-reported (drop at s) at n st (rw taken-is at e) tell (rw taken-is at c))
 
-    pub told : t .refusal ≡ 0 → t .closed ≡ false → tell ≡ true → runOf tell s at n st ≡ record { at = at + sizeOf r; frames = n + framesIn r; stop = stop.Told; state = t .state }
+    pub told : t .refusal ≡ 0 → t .told ≡ false → tell ≡ true → runOf tell s at n st ≡ record { at = at + sizeOf r; frames = n + framesIn r; stop = stop.Told; state = t .state }
     told e c l = rw (l, taken-is, er) (run-told (drop at s) at n st (rw taken-is at e) (rw taken-is at c))
 
-    pub on : t .refusal ≡ 0 → t .closed ≡ false → tell ≡ false → runOf tell s at n st ≡ runOf tell s (at + sizeOf r) (n + framesIn r) (t .state)
+    pub on : t .refusal ≡ 0 → t .told ≡ false → tell ≡ false → runOf tell s at n st ≡ runOf tell s (at + sizeOf r) (n + framesIn r) (t .state)
     on e c l =
         rw (l, taken-is, er, ← drop-drop)
         (run-on (drop at s) at n st (rw taken-is at e) (rw taken-is at c))

@@ -1,5 +1,5 @@
--- A record taken, and the scan of a buffer's records (document 01, "Trace records and the listing"; kinds 4 and 5 document 02, K1). Assumes
--- nothing.
+-- A record taken, and the scan of a buffer's records (document 01, "Trace records and the listing"; kinds 4 and 5 document 02, K1; the pending
+-- second K3). Assumes nothing.
 use Prim.Native.Nat.{ℕ, _+_}
 use mathlib.Core.Bool.{Bool, true, false, cond, _||_}
 use mathlib.Core.List.{List, [], _∷_}
@@ -12,7 +12,9 @@ use Rattle.tandem.specs.Tandem as tandem
 use Rattle.tandem.specs.declared.Tandem.{Tandem}
 use Rattle.tandem.specs.declared.Given.{Given}
 use Rattle.tandem.specs.declared.TandemStepped.{TandemStepped}
-use Rattle.tandem.specs.declared.TandemMarked.{TandemMarked}
+use Rattle.late.specs.Late.{freshLate, lateMarked}
+use Rattle.late.specs.declared.Late.{Late}
+use Rattle.late.specs.declared.LateMarked.{LateMarked}
 use Rattle.record.specs.declared.Record.{Record}
 use Rattle.record.specs.declared.Record.the-variants.{Frame, Mark, Provisioning, Level, LevelFrame, Refused}
 use Rattle.record.specs.Record.{kindOf, recordOf, recordsOf, sizeOf, bodyOf, framesIn, sectionIn, pathIn, levelIn}
@@ -21,13 +23,13 @@ use Rattle.trace.specs.declared.Taken.{Taken}
 use Rattle.trace.specs.declared.Run.{Run}
 use Rattle.trace.specs.declared.Stop.the-variants as stop
 
--- what a scan starts with: no provisioning met, no frame accepted, no second closed, and nothing stands
+-- what a scan starts with: no provisioning met, no frame accepted, no second pending, and nothing stands
 abbrev pub startOf : State
 startOf =
     record {
       begun = false;
       kind = 0;
-      sup = tandem.freshTandem blankSupervisor;
+      sup = freshLate (tandem.freshTandem blankSupervisor);
       last = replicate 44 0;
       standing = nothingStands;
       levels = replicate 6 tandem.nothing;
@@ -35,15 +37,15 @@ startOf =
 
 -- a record refused: nothing is changed
 abbrev pub refusedOf : State → ℕ → Taken
-refusedOf st n = record { refusal = n; closed = false; state = st }
+refusedOf st n = record { refusal = n; told = false; state = st }
 
 -- a record answered by a call: where the call refuses, it is refused; else the state after it is the next
 unfoldable pub answeredOf : State → ℕ → Bool → State → Taken
-answeredOf st refusal closed next = cond (eqb refusal 0) (record { refusal = 0; closed = closed; state = next }) (refusedOf st refusal)
+answeredOf st refusal told next = cond (eqb refusal 0) (record { refusal = 0; told = told; state = next }) (refusedOf st refusal)
 
 -- "Kind 1, length 69: overhead, flags, SM count, PM count"; six counts of levels follow by their kind
 abbrev pub stepIn : State → List ℕ → List ℕ → TandemStepped
-stepIn st body counts = tandem.framedOf (st .sup) (take 64 body) (getD body 64 0) (getD body 65 0) (getD body 66 0) counts
+stepIn st body counts = tandem.framedOf (st .sup .tandem) (take 64 body) (getD body 64 0) (getD body 65 0) (getD body 66 0) counts
 
 -- "with kind 1 its violation count is 0"
 abbrev pub noCounts : List ℕ
@@ -59,21 +61,25 @@ provisionIn body = provisionOf (getD body 0 0) (sectionIn body) (pathIn body) (t
 
 -- "kind 4, length 42, .. level, DEGThr (4), DEGM, mode, TIMActDis, names (32)"
 abbrev pub giveIn : State → List ℕ → Given
-giveIn st body = tandem.recordedOf (st .sup) (getD body 0 0) (levelIn body) (take 32 (drop 8 body))
+giveIn st body = tandem.recordedOf (st .sup .tandem) (getD body 0 0) (levelIn body) (take 32 (drop 8 body))
 
 -- "a trace uses kind 1 or kind 5 and not both": a frame of a kind may follow where none was accepted, or one of its own kind
 abbrev pub alike : State → ℕ → Bool
 alike st kind = eqb (st .kind) 0 || eqb (st .kind) kind
 
+-- a supervisor with levels in another's place, beside the same pending second
+abbrev pub beside : Late → Tandem → Late
+beside s t = record { tandem = t; pending = s .pending }
+
 -- the state after a frame of a kind, after a mark, and with another supervisor: a frame leaves what stands after it, a mark its figures
 abbrev pub afterFrame : State → ℕ → TandemStepped → State
-afterFrame st kind a = record { begun = true; kind = kind; sup = a .tandem; last = st .last; standing = a .report .standing; levels = a .stands }
+afterFrame st kind a = record { begun = true; kind = kind; sup = beside (st .sup) (a .tandem); last = st .last; standing = a .report .standing; levels = a .stands }
 
-abbrev pub afterMark : State → TandemMarked → State
-afterMark st a = record { begun = true; kind = st .kind; sup = a .tandem; last = a .figures; standing = st .standing; levels = st .levels }
+abbrev pub afterMark : State → LateMarked → State
+afterMark st a = record { begun = true; kind = st .kind; sup = a .late; last = a .figures; standing = st .standing; levels = st .levels }
 
-abbrev pub afterGiving : State → Tandem → State
-afterGiving st t = record { begun = true; kind = st .kind; sup = t; last = st .last; standing = st .standing; levels = st .levels }
+abbrev pub afterGiving : State → Late → State
+afterGiving st s = record { begun = true; kind = st .kind; sup = s; last = st .last; standing = st .standing; levels = st .levels }
 
 -- a frame, by its kind and the six counts, where its place is right: the refusals are the call's own
 unfoldable pub steppedOf : State → ℕ → List ℕ → List ℕ → Taken
@@ -86,19 +92,19 @@ framedOf st kind body counts = cond (st .begun) (cond (alike st kind) (steppedOf
 
 unfoldable pub markedOf : State → Taken
 markedOf st =
-    let a : TandemMarked = tandem.markedOf (st .sup) in
-    cond (st .begun) (answeredOf st (a .refusal) true (afterMark st a)) (refusedOf st 16)
+    let a : LateMarked = lateMarked (st .sup) in
+    cond (st .begun) (answeredOf st (a .refusal) (a .told) (afterMark st a)) (refusedOf st 16)
 
 unfoldable pub provisionedOf : State → List ℕ → Taken
 provisionedOf st body =
     let a : Provisioned = provisionIn body in
-    cond (st .begun) (refusedOf st 16) (answeredOf st (a .refusal) false (afterGiving st (tandem.freshTandem (a .supervisor))))
+    cond (st .begun) (refusedOf st 16) (answeredOf st (a .refusal) false (afterGiving st (freshLate (tandem.freshTandem (a .supervisor)))))
 
 -- "16 also for kind 4 after a frame or mark", and 18, are the call's own, ahead of its rest
 unfoldable pub givenOf : State → List ℕ → Taken
 givenOf st body =
     let a : Given = giveIn st body in
-    cond (st .begun) (answeredOf st (a .refusal) false (afterGiving st (a .tandem))) (refusedOf st 16)
+    cond (st .begun) (answeredOf st (a .refusal) false (afterGiving st (beside (st .sup) (a .tandem)))) (refusedOf st 16)
 
 -- a record with its body, taken in a state
 abbrev pub appliedOf : State → Record → List ℕ → Taken
@@ -113,16 +119,16 @@ appliedOf st (Refused n) body = refusedOf st n
 unfoldable pub takenOf : State → List ℕ → Taken
 takenOf st ys = appliedOf st (recordOf ys) (bodyOf (recordOf ys) ys)
 
--- The run over records, from the place `at` on, n frames before it. It ends at the first record refused, at one that closes a second, at each
--- that is told, and at the end.
+-- The run over records, from the place `at` on, n frames before it. It ends at the first record refused, at one with which a second is
+-- reported, at each that is told, and at the end.
 unfoldable pub runOver : Bool → List (List ℕ) → ℕ → ℕ → State → Run
 runOver tell [] at n st = record { at = at; frames = n; stop = stop.More; state = st }
 runOver tell (ys ∷ rs) at n st =
     let r : Record = recordOf ys in
     let t : Taken = takenOf st ys in
     cond (eqb (t .refusal) 0)
-    (cond (t .closed)
-    (record { at = at + sizeOf r; frames = n + framesIn r; stop = stop.Closed; state = t .state })
+    (cond (t .told)
+    (record { at = at + sizeOf r; frames = n + framesIn r; stop = stop.Reported; state = t .state })
     (cond tell
     (record { at = at + sizeOf r; frames = n + framesIn r; stop = stop.Told; state = t .state })
     (runOver tell rs (at + sizeOf r) (n + framesIn r) (t .state))))

@@ -1,37 +1,37 @@
 // The records of a trace taken in a state, and the scan of a buffer's records.
 use causes::Standing;
+use late::Late;
 use level::LevelStands;
 use record::Record;
-use tandem::Tandem;
 ghost use mathlib.Core.Path.{_≡_};
 ghost use Prim.Native.Nat.{_≤_};
 ghost use lib.ListN.{length, drop};
 ghost use Rattle.record.specs.Record.{Within, bodyOf};
 ghost use Rattle.trace.specs.Scan.{startOf, refusedOf, answeredOf, steppedOf, framedOf, countsIn, markedOf, provisionedOf, givenOf, appliedOf, runOf};
 
-// What a scan carries: whether a provisioning was met, the kind of the frames accepted (0: none was), the supervisor since, the figures of the
-// second that was closed last, and what stands of line, section and path and of levels 1 to 6 after the last frame.
+// What a scan carries: whether a provisioning was met, the kind of the frames accepted (0: none was), the supervisor since with its pending
+// second, the figures that the last mark gave, and what stands of line, section and path and of levels 1 to 6 after the last frame.
 pub struct State {
     pub begun: bool,
     pub kind: u8,
-    pub sup: Tandem,
+    pub sup: Late,
     pub last: [u32; 44],
     pub standing: Standing,
     pub levels: [LevelStands; 6],
 }
 
-// One record taken: its refusal, 0 where it was accepted; whether it closed a second; the state after it.
+// One record taken: its refusal, 0 where it was accepted; whether a second was reported with it; the state after it.
 pub struct Taken {
     pub refusal: u8,
-    pub closed: bool,
+    pub told: bool,
     pub state: State,
 }
 
-// Why a run over a buffer's records stops: none is left, a second was closed, a record was taken and each is told, a record at an offset was
+// Why a run over a buffer's records stops: none is left, a second was reported, a record was taken and each is told, a record at an offset was
 // refused.
 pub enum Stop {
     More,
-    Closed,
+    Reported,
     Told,
     Refused { number: u8, offset: usize },
 }
@@ -49,7 +49,8 @@ pub fn start() -> State
     ensures { λ r. ⌜ r ≡ startOf ⌝ }
 {
     let blank = supervisor::blank();
-    let sup = tandem::fresh_tandem(blank);
+    let fresh = tandem::fresh_tandem(blank);
+    let sup = late::fresh_late(fresh);
     let none = causes::nothing();
     let nothing = tandem::nothing_stands();
     State {
@@ -68,19 +69,19 @@ fn refused(st: State, number: u8) -> Taken
 {
     Taken {
         refusal: number,
-        closed: false,
+        told: false,
         state: st,
     }
 }
 
 // A record answered by a call: where the call refuses, so is the record.
-fn answered(st: State, refusal: u8, closed: bool, next: State) -> Taken
-    ensures { λ t. ⌜ t ≡ answeredOf st refusal closed next ⌝ }
+fn answered(st: State, refusal: u8, told: bool, next: State) -> Taken
+    ensures { λ t. ⌜ t ≡ answeredOf st refusal told next ⌝ }
 {
     if refusal == 0 {
         return Taken {
             refusal: 0,
-            closed: closed,
+            told: told,
             state: next,
         };
     }
@@ -92,16 +93,20 @@ fn stepped(st: State, kind: u8, body: &[u8], counts: [u8; 6]) -> Taken
     requires { ⌜ 67 ≤ length (now body) ⌝ }
     ensures { λ t. ⌜ t ≡ steppedOf st kind (now (body .entry)) counts ⌝ }
 {
-    let sup = st.sup;
+    let t = st.sup.tandem;
+    let pending = st.sup.pending;
     let last = st.last;
-    let a = tandem::step(sup, &body[0..64], body[64], body[65], body[66], counts);
+    let a = tandem::step(t, &body[0..64], body[64], body[65], body[66], counts);
     let after = a.tandem;
     let standing = a.report.standing;
     let levels = a.stands;
     let next = State {
         begun: true,
         kind: kind,
-        sup: after,
+        sup: Late {
+            tandem: after,
+            pending: pending,
+        },
         last: last,
         standing: standing,
         levels: levels,
@@ -136,14 +141,14 @@ fn take_mark(st: State) -> Taken
 {
     if st.begun {
         let sup = st.sup;
-        let a = tandem::mark(sup);
-        let after = a.tandem;
+        let a = late::mark(sup);
+        let after = a.late;
         let figures = a.figures;
         let mut next = st;
         next.begun = true;
         next.sup = after;
         next.last = figures;
-        return answered(st, a.refusal, true, next);
+        return answered(st, a.refusal, a.told, next);
     }
     refused(st, 16)
 }
@@ -159,7 +164,8 @@ fn take_provisioning(st: State, body: &[u8]) -> Taken
     let path = record::path_in(body);
     let a = supervisor::provision(body[0], section, path, &body[15..47], &body[47..79]);
     let base = a.supervisor;
-    let after = tandem::fresh_tandem(base);
+    let fresh = tandem::fresh_tandem(base);
+    let after = late::fresh_late(fresh);
     let mut next = st;
     next.begun = true;
     next.sup = after;
@@ -172,13 +178,18 @@ fn take_level(st: State, body: &[u8]) -> Taken
     ensures { λ t. ⌜ t ≡ givenOf st (now (body .entry)) ⌝ }
 {
     if st.begun {
-        let sup = st.sup;
+        let t = st.sup.tandem;
+        let kept = st.sup.pending;
         let asked = record::level_in(body);
-        let a = tandem::give_record(sup, body[0], asked, &body[8..40]);
+        let a = tandem::give_record(t, body[0], asked, &body[8..40]);
         let after = a.tandem;
+        let held = Late {
+            tandem: after,
+            pending: kept,
+        };
         let mut next = st;
         next.begun = true;
-        next.sup = after;
+        next.sup = held;
         return answered(st, a.refusal, false, next);
     }
     refused(st, 16)
@@ -217,7 +228,7 @@ fn applied(st: State, r: Record, s: &[u8], at: usize) -> Taken
     }
 }
 
-// Takes the records of s from a position on, until one is refused, one closes a second, or none is left; with `tell` one at most.
+// Takes the records of s from a position on, until one is refused, a second is reported with one, or none is left; with `tell` one at most.
 pub fn scan(tell: bool, st: State, s: &[u8], from: usize) -> Run
     ensures { λ r. ⌜ r ≡ runOf tell (now (s .entry)) from 0 st ⌝ }
 {
@@ -248,8 +259,8 @@ pub fn scan(tell: bool, st: State, s: &[u8], from: usize) -> Run
         state = t.state;
         frames += record::frames_in(rec);
         at += record::length_of(rec) + 2;
-        if t.closed {
-            break Stop::Closed;
+        if t.told {
+            break Stop::Reported;
         }
         if tell {
             break Stop::Told;

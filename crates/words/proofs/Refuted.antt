@@ -19,6 +19,10 @@ use Rattle.words.proofs.word_of.Kinds as word-of-kinds
 use Rattle.words.proofs.word_of.Reads as word-of-reads
 use Rattle.words.proofs.words_in.Kinds as words-in-kinds
 use Rattle.words.proofs.words_in.Reads as words-in-reads
+use Rattle.words.proofs.figures_in.Kinds as figures-in-kinds
+use Rattle.words.proofs.figures_in.Reads as figures-in-reads
+use Rattle.words.proofs.numbered_record.Kinds as numbered-record-kinds
+use Rattle.words.proofs.numbered_record.Reads as numbered-record-reads
 use Rattle.words.proofs.lay_words.Kinds as lay-words-kinds
 use Rattle.words.proofs.lay_words.Reads as lay-words-reads
 use Rattle.words.proofs.record_of.Kinds as record-of-kinds
@@ -55,6 +59,23 @@ pub words-reversed : (κs : Lfts 0) (x : List ℕ) (s : AtExit (endedOf 0 record
     → getD x 0 0 ≡ 0 → record-of-reads.Post κs (1 ∷ replicate 19 0, (replicate 24 0, tt)) x s → ⊥
 unfolding flat
 words-reversed κs x s w e =
+    let z : _≡_ {A = ℕ} 0 1 = sym w ∙ ap (λ (l : List ℕ). getD l 0 0) e in
+    omega arith
+
+-- figures_in: with no room for all of them none is read
+pub figures-in-part : (κs : Lfts 1) (a : Dens κs figures-in-kinds.ps) (x : List ℕ) (s : AtExit (endedOf 1 figures-in-kinds.ps figures-in-kinds.r) κs)
+    → now (a .0) ≡ replicate 171 1 → a .1 .0 ≡ 0 → getD x 0 0 ≡ 16843009 → figures-in-reads.Post κs a x s → ⊥
+unfolding wordsIn
+figures-in-part κs a x s b at w e =
+    let h : x ≡ wordsIn 43 0 (replicate 171 1) = rw (b, at) at e in
+    let z : _≡_ {A = ℕ} 16843009 0 = sym w ∙ ap (λ (l : List ℕ). getD l 0 0) h in
+    omega arith
+
+-- numbered_record: the number comes first
+pub number-last : (κs : Lfts 0) (x : List ℕ) (s : AtExit (endedOf 0 numbered-record-kinds.ps numbered-record-kinds.r) κs)
+    → getD x 0 0 ≡ 0 → numbered-record-reads.Post κs (1, (replicate 43 0, tt)) x s → ⊥
+unfolding flat
+number-last κs x s w e =
     let z : _≡_ {A = ℕ} 0 1 = sym w ∙ ap (λ (l : List ℕ). getD l 0 0) e in
     omega arith
 

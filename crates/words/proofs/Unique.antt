@@ -8,6 +8,10 @@ use Rattle.words.proofs.word_of.Kinds as word-of-kinds
 use Rattle.words.proofs.word_of.Reads as word-of-reads
 use Rattle.words.proofs.words_in.Kinds as words-in-kinds
 use Rattle.words.proofs.words_in.Reads as words-in-reads
+use Rattle.words.proofs.figures_in.Kinds as figures-in-kinds
+use Rattle.words.proofs.figures_in.Reads as figures-in-reads
+use Rattle.words.proofs.numbered_record.Kinds as numbered-record-kinds
+use Rattle.words.proofs.numbered_record.Reads as numbered-record-reads
 use Rattle.words.proofs.record_of.Kinds as record-of-kinds
 use Rattle.words.proofs.record_of.Reads as record-of-reads
 use Rattle.words.proofs.in_range.Kinds as in-range-kinds
@@ -25,6 +29,12 @@ words-in-one κs a x y s t p q = p ∙ sym q
 
 pub record-of-one : OneAnswer 0 record-of-kinds.ps record-of-kinds.r record-of-reads.Post
 record-of-one κs a x y s t p q = p ∙ sym q
+
+pub figures-in-one : OneAnswer 1 figures-in-kinds.ps figures-in-kinds.r figures-in-reads.Post
+figures-in-one κs a x y s t p q = p ∙ sym q
+
+pub numbered-record-one : OneAnswer 0 numbered-record-kinds.ps numbered-record-kinds.r numbered-record-reads.Post
+numbered-record-one κs a x y s t p q = p ∙ sym q
 
 pub in-range-one : OneAnswer 0 in-range-kinds.ps in-range-kinds.r in-range-reads.Post
 in-range-one κs a x y s t p q = p ∙ sym q

@@ -1,7 +1,7 @@
 // Numbers in lent bytes, as little-endian words of four bytes. Each function takes any place: what does not lie within the lent bytes is
 // read as zeros, and is not written.
 ghost use mathlib.Core.Path.{_≡_};
-ghost use mathlib.Core.List.{_++_};
+ghost use mathlib.Core.List.{_∷_, _++_};
 ghost use Prim.Native.Nat.{_+_, _*_, _≤_, _<_};
 ghost use lib.ListN.{length, drop};
 ghost use Rattle.answer.specs.Over.{over};
@@ -74,6 +74,19 @@ pub fn words_in(b: &[u8], at: u32) -> [u32; 12]
     w
 }
 
+// Forty-three words of b from `at`.
+pub fn figures_in(b: &[u8], at: u32) -> [u32; 43]
+    ensures { λ r. ⌜ r ≡ wordsIn 43 at (now (b .entry)) ⌝ }
+{
+    let from = at as usize;
+    let mut v = [0u32; 43];
+    if from + 172 <= b.len() {
+        read_words(&mut v, b, from);
+        return v;
+    }
+    v
+}
+
 // Twelve words laid over b from `at`.
 pub fn lay_words(b: &mut [u8], at: u32, w: [u32; 12])
     ensures { λ _. ⌜ now (b .exit) ≡ laid (now (b .entry)) at (flat w) ⌝ }
@@ -91,6 +104,16 @@ pub fn record_of(v: [u32; 20], w: [u32; 24]) -> [u8; 176]
     let mut t = [0u8; 176];
     put_words(&mut t, 0, &v);
     put_words(&mut t, 80, &w);
+    t
+}
+
+// The 176 bytes of a word and of forty-three behind it.
+pub fn numbered_record(number: u32, v: [u32; 43]) -> [u8; 176]
+    ensures { λ r. ⌜ r ≡ flat (number ∷ v) ⌝ }
+{
+    let mut t = [0u8; 176];
+    put_word(&mut t, 0, number);
+    put_words(&mut t, 4, &v);
     t
 }
 

@@ -8,7 +8,7 @@
 //! explanation, and CALLS: programs made of calls.c and a card's library, likewise. second/compare builds them and sets all three.
 //! LEDGER is taken where LEDGERS is not set.
 
-use second::card::{Card, LevelFields, RECORD};
+use second::card::{Card, LevelFields, RECORD, TOLD};
 use second::cover::Cover;
 use second::explain::explain;
 use second::generate::{self, Generated, Item};
@@ -19,6 +19,8 @@ use second::provisioning::{ceiling, LevelProvisioning, Provisioning};
 use second::random::Random;
 use second::reader;
 use second::report;
+use second::seconds_cover::SecondsCover;
+use second::seconds_generate;
 use std::io::{Read, Write};
 use std::process::{Child, ChildStdin, ChildStdout, Command, Stdio};
 use std::sync::atomic::{AtomicU64, Ordering};
@@ -76,11 +78,12 @@ fn printed(path: &str, trace: &[u8]) -> String {
     text
 }
 
-/// What was exercised: of line, section and path, and of the levels.
+/// What was exercised: of line, section and path, of the levels, and of neighbouring seconds.
 #[derive(Default)]
 struct Exercised {
     base: Cover,
     levels: LevelCover,
+    seconds: SecondsCover,
 }
 
 /// Orders for calls.c, and what the second program answers to them.
@@ -134,8 +137,8 @@ fn fresh(session: &mut Session, card: &mut Card, sup: u8, f: &Fields, cover: &mu
     let answer = Provisioning::of(f.k, f.thr, f.degm, f.mode, f.dis, f.names);
     let word = match sup {
         0 => card.fresh(true, answer),
-        4 => Card::default().fresh(true, answer),
-        _ => card.fresh(false, answer),
+        1..=3 => card.fresh(false, answer),
+        _ => Card::default().fresh(true, answer),
     };
     session.answer("otn_fresh".into(), word, &[], cover);
 }
@@ -174,6 +177,7 @@ fn step(session: &mut Session, card: &mut Card, sup: u8, f: &Given, cover: &mut 
     if let (Some(before), Some(s), 0) = (before, &card.supervisor, word & 255) {
         cover.base.frame(&before, &s.standing());
         cover.levels.follow(s, &mut session.stood);
+        cover.seconds.frame(s);
         let acts = [s.provisioning.acts(0), s.provisioning.acts(1)];
         session.broken.extend(demand_3(word, acts));
     }
@@ -181,17 +185,32 @@ fn step(session: &mut Session, card: &mut Card, sup: u8, f: &Given, cover: &mut 
 }
 
 fn mark(session: &mut Session, card: &mut Card, sup: u8, room: usize, fill: u8, cover: &mut Exercised) {
-    session.orders.extend([b'M', sup]);
-    session.orders.extend((room as u16).to_le_bytes());
-    session.orders.push(fill);
     let mut buffer = vec![fill; room];
+    if let (0, Some(s)) = (sup, &card.supervisor) {
+        cover.seconds.mark(s);
+    }
     let word = card.mark(sup == 0, &mut buffer);
-    cover.base.marks += u64::from(word == 0);
-    if word == 0 && room >= 80 {
+    cover.base.marks += u64::from(word & 255 == 0);
+    told(session, b'M', sup, word, fill, &buffer, cover);
+}
+
+fn pending(session: &mut Session, card: &Card, sup: u8, room: usize, fill: u8, cover: &mut Exercised) {
+    let mut buffer = vec![fill; room];
+    let word = card.pending(sup == 0, &mut buffer);
+    told(session, b'Q', sup, word, fill, &buffer, cover);
+}
+
+/// The order of otn_mark or otn_pending, and its answer: the word and the record.
+fn told(session: &mut Session, order: u8, sup: u8, word: u64, fill: u8, buffer: &[u8], cover: &mut Exercised) {
+    session.orders.extend([order, sup]);
+    session.orders.extend((buffer.len() as u16).to_le_bytes());
+    session.orders.push(fill);
+    if word == TOLD && buffer.len() >= 80 {
         let figure = |i: usize| u32::from_le_bytes(buffer[4 * i..4 * i + 4].try_into().unwrap());
         session.broken.extend(demand_3_second(&std::array::from_fn(figure)));
     }
-    session.answer(format!("otn_mark, {room} bytes"), word, &buffer, cover);
+    let name = if order == b'M' { "otn_mark" } else { "otn_pending" };
+    session.answer(format!("{name}, {} bytes", buffer.len()), word, buffer, cover);
 }
 
 /// Whose accepted trace is read.
@@ -230,7 +249,7 @@ fn demand_3(word: u64, acts: [bool; 2]) -> Option<String> {
     (stands(37) != (head != 0)).then(|| format!("head {head}, path failed: {}", stands(37)))
 }
 
-/// And of a closed second.
+/// And of a second that is told.
 fn demand_3_second(s: &[u32; 20]) -> Option<String> {
     if s[2..12].iter().sum::<u32>() != s[1] {
         return Some(format!("the ten figures do not add up to the frames: {s:?}"));
@@ -239,14 +258,31 @@ fn demand_3_second(s: &[u32; 20]) -> Option<String> {
     (s[16] > most || s[17] > most).then(|| format!("more path blocks than frames clear or under path trace mismatch: {s:?}"))
 }
 
+/// A supervisor that is refused with 17, but for otn_fresh: of a wrong length, or with numbers beyond their ranges.
+fn refused(rng: &mut Random) -> u8 {
+    if rng.once_in(2) {
+        return rng.within(1, 4) as u8;
+    }
+    rng.within(5, 47) as u8
+}
+
+/// Any room for a record, mostly the right one.
+fn any_room(rng: &mut Random) -> usize {
+    match rng.below(8) {
+        0 => rng.below(300) as usize,
+        1 => rng.pick(&[0, 1, 5, 80, 175, 177, 200]),
+        _ => RECORD,
+    }
+}
+
 /// A call that is refused, of any number, or one that changes nothing.
 fn aside(rng: &mut Random, session: &mut Session, card: &mut Card, p: &Provisioning, cover: &mut Exercised) {
-    let sup = if rng.once_in(3) { rng.within(1, 4) as u8 } else { 0 };
+    let sup = if rng.once_in(3) { refused(rng) } else { 0 };
     let mut overhead = vec![0u8; rng.pick(&[0, 1, 63, 65, 128, 300])];
     rng.fill(&mut overhead);
     let good = [0u8; 64];
     let six = rng.once_in(2).then(|| std::array::from_fn(|_| rng.below(9) as u8));
-    match rng.below(11) {
+    match rng.below(12) {
         0 => {
             let f = Given { overhead: &overhead, flags: rng.byte(), counts: [rng.byte(), rng.byte()], six };
             step(session, card, sup, &f, cover);
@@ -265,9 +301,10 @@ fn aside(rng: &mut Random, session: &mut Session, card: &mut Card, p: &Provision
         }
         3 => {
             let f = Given { overhead: &good, flags: 0, counts: [0; 2], six };
-            step(session, card, rng.within(1, 4) as u8, &f, cover);
+            step(session, card, refused(rng), &f, cover);
         }
-        4 => mark(session, card, rng.within(1, 4) as u8, rng.pick(&[0, 1, 79, 80, 81, 175, 176, 177]), rng.byte(), cover),
+        4 => mark(session, card, refused(rng), rng.pick(&[0, 1, 79, 80, 81, 175, 176, 177]), rng.byte(), cover),
+        10 => pending(session, card, sup, any_room(rng), rng.byte(), cover),
         5 | 6 => {
             let layer = if rng.once_in(4) { rng.byte() } else { rng.below(2) as u8 };
             let of = if rng.once_in(2) { Of::Layer(layer) } else { Of::Level(any_level(rng)) };
@@ -300,7 +337,7 @@ fn aside(rng: &mut Random, session: &mut Session, card: &mut Card, p: &Provision
                 }
             }
             let accepted = Provisioning::of(f.k, f.thr, f.degm, f.mode, f.dis, f.names).is_ok();
-            let sup = if accepted { rng.within(1, 4) as u8 } else { sup };
+            let sup = if accepted { refused(rng) } else { sup };
             fresh(session, card, sup, &f, cover);
         }
     }
@@ -333,7 +370,7 @@ fn late_level(rng: &mut Random, session: &mut Session, card: &mut Card, sup: u8,
         }
     }
     let accepted = card.clone().level(true, &f) == 0;
-    level(session, card, if accepted { rng.within(1, 4) as u8 } else { sup }, &f, cover);
+    level(session, card, if accepted { refused(rng) } else { sup }, &f, cover);
 }
 
 fn level_fields(level: u8, p: &LevelProvisioning) -> LevelFields<'_> {
@@ -380,14 +417,19 @@ fn session(rng: &mut Random, g: &Generated, cover: &mut Exercised) -> Session {
                 }
             }
             Item::Mark => {
-                let room = if rng.once_in(4) { rng.pick(&[0, 1, 5, 80, 175, 177, 200]) } else { RECORD };
-                mark(&mut session, &mut card, 0, room, rng.byte(), cover);
+                mark(&mut session, &mut card, 0, any_room(rng), rng.byte(), cover);
+                if rng.once_in(2) {
+                    pending(&mut session, &card, 0, any_room(rng), rng.byte(), cover);
+                }
                 for (number, _) in &g.levels {
                     level_report(&mut session, &card, 0, *number, cover);
                 }
             }
         }
     }
+    // What a scan prints last.
+    pending(&mut session, &card, 0, RECORD, rng.byte(), cover);
+    card.supervisor.iter().for_each(|s| cover.seconds.end(s));
     session.orders.push(b'Z');
     session
 }
@@ -621,10 +663,12 @@ fn main() {
             println!("{MANY} differences; no more is compared");
             break;
         }
-        // Every third trace has levels.
-        let g = match index % 3 {
-            2 => level_generate::trace(seed, index / 3),
-            _ => generate::trace(seed, index - index / 3),
+        // Every fifth trace is of neighbouring seconds; of the others every third has levels.
+        let other = index - index / 5;
+        let g = match (index % 5, other % 3) {
+            (4, _) => seconds_generate::trace(seed, index / 5),
+            (_, 2) => level_generate::trace(seed, other / 3),
+            _ => generate::trace(seed, other - other / 3),
         };
         let whose = format!("seed {seed} trace {index} ({})", g.about);
         // The full second's texts are a directed case.
@@ -653,6 +697,9 @@ fn main() {
     let (table, of_levels) = cover.levels.table();
     println!("{table}");
     wrong.extend(of_levels);
+    let (table, of_seconds) = cover.seconds.table();
+    println!("{table}");
+    wrong.extend(of_seconds);
     for line in &wrong {
         println!("{line}");
     }

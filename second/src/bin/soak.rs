@@ -7,6 +7,7 @@ use second::generate;
 use second::level_generate;
 use second::random::Random;
 use second::reader::{self, Trace};
+use second::seconds_generate;
 use std::io::{Read, Write};
 use std::process::{Command, ExitStatus, Stdio};
 
@@ -101,9 +102,10 @@ fn main() {
     let mut from = Vec::new();
     for index in 0..inputs {
         if index % 50 == 0 {
-            from = match index / 50 % 2 {
+            from = match index / 50 % 3 {
                 0 => generate::trace(seed, 1 + index / 50).bytes,
-                _ => level_generate::trace(seed, index / 50).bytes,
+                1 => level_generate::trace(seed, index / 50).bytes,
+                _ => seconds_generate::trace(seed, index / 50).bytes,
             };
             if from.len() < 83 {
                 from = generate::trace(seed, 1_000_001).bytes;

@@ -8,8 +8,8 @@ use Rattle.card.proofs.otn_fresh.Tie as tie
 provision-requires : tie.Need-provision-requires
 provision-requires c κs = search needs
 
-store-requires : tie.Need-store-requires
-store-requires c κs = search needs
+store-late-requires : tie.Need-store-late-requires
+store-late-requires c κs = search needs
 
 same-length : tie.Need-same-length
 same-length c = search needs
@@ -17,7 +17,7 @@ same-length c = search needs
 returns : tie.Need-returns
 returns c =
     let a = c .before .before .before .before .before .before .before .before .before .before .before .before .args in
-    fresh-done (now (a .sup)) (provisionBy (a .k) (a .smthr) (a .smdegm) (a .pmthr) (a .pmdegm) (a .smmode) (a .pmmode) (a .smdis) (a .pmdis) (now (a .smnames)) (now (a .pmnames))) _ (c .before .before .before .before .before .before .before .before .if1 .taken) (c .before .before .before .before .before .before .before .provision .ensures) _ (c .before .before .before .before .before .if2 .taken) (c .before .before .store .ensures)
+    fresh-done (now (a .sup)) (provisionBy (a .k) (a .smthr) (a .smdegm) (a .pmthr) (a .pmdegm) (a .smmode) (a .pmmode) (a .smdis) (a .pmdis) (now (a .smnames)) (now (a .pmnames))) _ (c .before .before .before .before .before .before .before .before .if1 .taken) (c .before .before .before .before .before .before .before .provision .ensures) _ (c .before .before .before .before .before .if2 .taken) (c .before .before .store-late .ensures)
 
 wide-requires : tie.Need-wide-requires
 wide-requires c κs = search needs
@@ -37,7 +37,7 @@ otn-fresh-spec =
     tie.close
     (tie.spec
     provision-requires
-    store-requires
+    store-late-requires
     same-length
     returns
     wide-requires

@@ -5,8 +5,8 @@ use borrow.Author.Needs.{needs}
 use Rattle.card.proofs.otn_trace.Statement.{statement}
 use Rattle.card.proofs.otn_trace.Tie as tie
 
-is-tandem-requires : tie.Need-is-tandem-requires
-is-tandem-requires c κs = search needs
+is-late-requires : tie.Need-is-late-requires
+is-late-requires c κs = search needs
 
 record-at-requires : tie.Need-record-at-requires
 record-at-requires c κs = search needs
@@ -47,7 +47,7 @@ same-length c = search needs
 returns : tie.Need-returns
 returns c =
     let a = c .before .before .before .before .before .before .before .before .before .before .before .before .before .before .before .before .before in
-    let t = sym (c .before .before .before .before .before .before .before .before .before .before .before .before .before .before .is-tandem .ensures) ∙ c .before .before .before .before .before .before .before .before .before .before .before .before .before .if1 .taken in
+    let t = sym (c .before .before .before .before .before .before .before .before .before .before .before .before .before .before .is-late .ensures) ∙ c .before .before .before .before .before .before .before .before .before .before .before .before .before .if1 .taken in
     trace-done (now (a .args .sup)) (a .args .layer) (now (a .args .out)) t _ _ _ _ _ _ (c .before .before .before .before .before .before .before .before .before .before .before .before .record-at .ensures .0) (c .before .before .before .before .before .before .before .before .before .before .before .strip-in .ensures) (c .before .before .before .before .before .before .before .before .before .before .state-in .ensures) (c .before .before .before .before .before .before .before .before .before .checked .ensures) (c .before .before .before .before .before .before .before .before .checked2 .ensures) (c .before .before .before .before .before .before .before .checked3 .ensures) _ _ (c .before .before .before .before .before .before .if2 .taken) (c .before .before .before .before .before .band-in .ensures) (c .before .before .pour .ensures)
 
 wide-requires : tie.Need-wide-requires
@@ -56,19 +56,19 @@ wide-requires c κs = search needs
 returns-2 : tie.Need-returns-2
 returns-2 c =
     let a = c .before .before .before .before .before .before .before .before .before .before .before .before in
-    let t = sym (c .before .before .before .before .before .before .before .before .before .is-tandem .ensures) ∙ c .before .before .before .before .before .before .before .before .if1 .taken in
+    let t = sym (c .before .before .before .before .before .before .before .before .before .is-late .ensures) ∙ c .before .before .before .before .before .before .before .before .if1 .taken in
     trace-refused (now (a .args .sup)) (a .args .layer) (now (a .args .out)) t _ _ _ _ _ _ (c .before .before .before .before .before .before .before .record-at .ensures .0) (c .before .before .before .before .before .before .strip-in .ensures) (c .before .before .before .before .before .state-in .ensures) (c .before .before .before .before .checked .ensures) (c .before .before .before .checked2 .ensures) (c .before .before .checked3 .ensures) _ (c .before .if2 .left) (c .wide .ensures)
 
 returns-3 : tie.Need-returns-3
 returns-3 c =
     let a = c .before .before .before .before in
-    trace-bad (now (a .args .sup)) (a .args .layer) (now (a .args .out)) (sym (c .before .is-tandem .ensures) ∙ c .if1 .left)
+    trace-bad (now (a .args .sup)) (a .args .layer) (now (a .args .out)) (sym (c .before .is-late .ensures) ∙ c .if1 .left)
 
 pub otn-trace-spec : {M : Type 1} → statement M
 otn-trace-spec =
     tie.close
     (tie.spec
-    is-tandem-requires
+    is-late-requires
     record-at-requires
     add-strip-in
     strip-in-requires

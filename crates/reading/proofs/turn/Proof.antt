@@ -1,4 +1,4 @@
-use Rattle.reading.proofs.Lines.{Gathered, Going, going-start, halt-closed, halt-told, halts, run-stands, run-sound, going-closed, going-told, going-end}
+use Rattle.reading.proofs.Lines.{Gathered, Going, going-start, halt-reported, halt-told, halts, run-stands, run-sound, going-reported, going-told, going-end}
 use Rattle.reading.proofs.Turns.{ending-put, turned}
 use lib.ListN.{length}
 use denote.Ref.{now}
@@ -69,7 +69,7 @@ returns c =
     let o = c .before .before .before .before .before .wide2 .ensures in
     let z = going-end (a .from) (now (a .s)) (now (a .out)) (l .out) (l .at) (l .put) (l .state) (l .frames) (l .inv) (r .result) (r .ensures) (h .result .refusal) (r .result .at) (halts (a .from) (now (a .s)) (now (a .out)) (l .out) (l .at) (l .put) (l .state) (l .frames) (l .inv) (r .result) (r .ensures) (h .result) (h .ensures) (c .before .before .before .before .before .before .before .if1 .taken)) in
     let g : Gathered = record { reading = record { tell = a .from .tell; state = r .result .state; at = a .from .at + r .result .at; frames = l .frames + r .result .frames }; used = r .result .at; put = l .put; refusal = h .result .refusal } in
-    let roomy : l .put + 88 ≤ length (l .out) = omega (arith, l .inv .room, l .inv .inside, l .inv .long, c .before .before .before .before .before .before .before .before .before .before .before .before .before .before .before .before .pre .1) in
+    let roomy : l .put + 1014 ≤ length (l .out) = omega (arith, l .inv .room, l .inv .inside, l .inv .long, c .before .before .before .before .before .before .before .before .before .before .before .before .before .before .before .before .pre .1) in
     let y = ending-put (l .out) (l .put) (x .result) (x .last .1 .1 .1 .1 .1 .0) _ roomy (x .ensures .0) (x .ensures .1) in
     rw (e, o) (turned (a .from) (now (a .s)) (a .ended) (now (a .out)) (l .out) (z .1) g (z .0) (m .result) (m .ensures) (x .result) (x .last .1 .1 .1 .1 .1 .0) (rw (e, o) at (y .0)) (rw (e, o) at (y .1)))
 
@@ -95,8 +95,8 @@ loop-again c =
     let e = c .before .before .before .before .before .before .before .wide .ensures in
     rw e (going-told (a .from) (now (a .s)) (now (a .out)) (l .out) (l .at) (l .put) (l .state) (l .frames) (l .inv) (r .result) (r .ensures) (x .result) (x .last .1 .1 .1 .0) (halt-told (h .result) (r .result .stop) (h .ensures) (c .before .before .before .before .before .if1 .left) (c .before .before .before .before .if2 .taken)) (c .before .before .before .before .before .before .before .before .before .before .before .before .before .before .pre .1 .0) (c .before .before .before .before .before .before .before .before .before .before .before .before .before .before .pre .1 .1) (rw e at (x .ensures .0)) (x .ensures .1) (rw e at (x .ensures .2)) (x .kept .1 .1 .1 .0))
 
-closed-line-requires : tie.Need-closed-line-requires Inv-loop μ-loop
-closed-line-requires c κs = search needs
+reported-line-requires : tie.Need-reported-line-requires Inv-loop μ-loop
+reported-line-requires c κs = search needs
 
 loop-less-2 : tie.Need-loop-less-2 Inv-loop μ-loop
 loop-less-2 c =
@@ -105,7 +105,7 @@ loop-less-2 c =
     let r = c .before .before .before .before .before .before .before .before .before .scan in
     let h = c .before .before .before .before .before .before .halt-of in
     let t = run-stands (a .from) (now (a .s)) (now (a .out)) (l .out) (l .at) (l .put) (l .state) (l .frames) (l .inv) (r .result) (r .ensures) in
-    omega (arith, t .inside, t .further (halt-closed (h .result) (r .result .stop) (h .ensures) (c .before .before .before .before .before .if1 .left) (c .before .before .before .before .if2 .left)))
+    omega (arith, t .inside, t .further (halt-reported (h .result) (r .result .stop) (h .ensures) (c .before .before .before .before .before .if1 .left) (c .before .before .before .before .if2 .left)))
 
 loop-again-2 : tie.Need-loop-again-2 Inv-loop μ-loop
 loop-again-2 c =
@@ -113,8 +113,8 @@ loop-again-2 c =
     let l = c .before .before .before .before .before .before .before .before .before .before .loop in
     let r = c .before .before .before .before .before .before .before .before .before .scan in
     let h = c .before .before .before .before .before .before .halt-of in
-    let x = c .before .before .closed-line in
-    rw (c .before .before .before .before .before .before .before .wide .ensures) (going-closed (a .from) (now (a .s)) (now (a .out)) (l .out) (l .at) (l .put) (l .state) (l .frames) (l .inv) (r .result) (r .ensures) (x .result) (x .last .1 .0) (halt-closed (h .result) (r .result .stop) (h .ensures) (c .before .before .before .before .before .if1 .left) (c .before .before .before .before .if2 .left)) (c .before .before .before .before .before .before .before .before .before .before .before .before .before .before .pre .1 .0) (c .before .before .before .before .before .before .before .before .before .before .before .before .before .before .pre .1 .1) (x .ensures .0) (x .ensures .1) (x .ensures .2) (x .kept .1 .0))
+    let x = c .before .before .reported-line in
+    rw (c .before .before .before .before .before .before .before .wide .ensures) (going-reported (a .from) (now (a .s)) (now (a .out)) (l .out) (l .at) (l .put) (l .state) (l .frames) (l .inv) (r .result) (r .ensures) (x .result) (x .last .1 .0) (halt-reported (h .result) (r .result .stop) (h .ensures) (c .before .before .before .before .before .if1 .left) (c .before .before .before .before .if2 .left)) (c .before .before .before .before .before .before .before .before .before .before .before .before .before .before .pre .1 .0) (c .before .before .before .before .before .before .before .before .before .before .before .before .before .before .pre .1 .1) (x .ensures .0) (x .ensures .1) (x .ensures .2) (x .kept .1 .0))
 
 pub turn-spec : {M : Type 1} → statement M
 turn-spec =
@@ -136,6 +136,6 @@ turn-spec =
     told-line-requires
     loop-less
     loop-again
-    closed-line-requires
+    reported-line-requires
     loop-less-2
     loop-again-2)

@@ -1,4 +1,4 @@
-use Rattle.trace.proofs.Scans.{run-end, within, refused, room, closed, told, on, refused-itself}
+use Rattle.trace.proofs.Scans.{run-end, within, refused, room, reported, told, on, refused-itself}
 use Rattle.trace.specs.Scan.{runOf}
 use lib.ListN.{length}
 use denote.Ref.{now}
@@ -103,7 +103,7 @@ returns-4 c =
     let l = c .before .before .before .before .before .before .before .before .before .before .loop in
     let tell = c .before .before .before .before .before .before .before .before .before .before .before .before .args .tell in
     let s = now (c .before .before .before .before .before .before .before .before .before .before .before .before .args .s) in
-    rw (c .before .length-of .ensures, c .before .before .frames-in .ensures) (sym (l .inv .0 ∙ closed tell s (l .at) (l .frames) (l .state) (c .before .before .before .before .before .before .before .before .record-at .result) (c .before .before .before .before .before .before .before .before .record-at .ensures) (c .before .before .before .before .before .before .before .before .before .if1 .left) (c .before .before .before .before .before .before .applied .result) (c .before .before .before .before .before .before .applied .ensures) (c .before .before .before .before .if2 .left) (c .if3 .taken)))
+    rw (c .before .length-of .ensures, c .before .before .frames-in .ensures) (sym (l .inv .0 ∙ reported tell s (l .at) (l .frames) (l .state) (c .before .before .before .before .before .before .before .before .record-at .result) (c .before .before .before .before .before .before .before .before .record-at .ensures) (c .before .before .before .before .before .before .before .before .before .if1 .left) (c .before .before .before .before .before .before .applied .result) (c .before .before .before .before .before .before .applied .ensures) (c .before .before .before .before .if2 .left) (c .if3 .taken)))
 
 returns-5 : tie.Need-returns-5 Inv-loop μ-loop
 returns-5 c =

@@ -26,7 +26,7 @@ answered-requires c κs = search needs
 
 returns : tie.Need-returns
 unfolding givenOf
-returns c = simp (c .answered .ensures, c .before .before .give-record .ensures, c .before .before .before .before .before .level-in .ensures, c .before .before .before .before .before .before .before .if1 .taken)
+returns c = simp (c .answered .ensures, c .before .before .give-record .ensures, c .before .before .before .before .before .level-in .ensures, c .before .before .before .before .before .before .before .before .if1 .taken)
 
 refused-requires : tie.Need-refused-requires
 refused-requires c κs = search needs

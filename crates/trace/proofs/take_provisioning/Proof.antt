@@ -43,12 +43,15 @@ provision-requires c κs = search needs
 fresh-tandem-requires : tie.Need-fresh-tandem-requires
 fresh-tandem-requires c κs = search needs
 
+fresh-late-requires : tie.Need-fresh-late-requires
+fresh-late-requires c κs = search needs
+
 answered-requires : tie.Need-answered-requires
 answered-requires c κs = search needs
 
 returns-2 : tie.Need-returns-2
 unfolding provisionedOf
-returns-2 c = simp (c .answered .ensures, c .before .fresh-tandem .ensures, c .before .before .before .provision .ensures, c .before .before .before .before .before .before .before .before .section-in .ensures, c .before .before .before .before .before .before .before .path-in .ensures, c .before .before .before .before .before .before .before .before .before .if1 .left)
+returns-2 c = simp (c .answered .ensures, c .before .fresh-late .ensures, c .before .before .fresh-tandem .ensures, c .before .before .before .before .provision .ensures, c .before .before .before .before .before .before .before .before .before .section-in .ensures, c .before .before .before .before .before .before .before .before .path-in .ensures, c .before .before .before .before .before .before .before .before .before .before .if1 .left)
 
 pub take-provisioning-spec : {M : Type 1} → statement M
 take-provisioning-spec =
@@ -67,5 +70,6 @@ take-provisioning-spec =
     part-provision-end-2
     provision-requires
     fresh-tandem-requires
+    fresh-late-requires
     answered-requires
     returns-2)

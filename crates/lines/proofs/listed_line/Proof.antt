@@ -1,12 +1,11 @@
 use Rattle.answer.proofs.Overs.{over-start}
+use Rattle.tandem.specs.Levels.{listedOf}
 use Rattle.tandem.specs.declared.Listed.{Listed}
-use Rattle.stream.specs.Stream.{lastListed}
-use Rattle.lines.specs.Line.{lineFor}
 use lib.ListN.{length, take, replicate}
 use mathlib.Core.Path.{_≡_, refl, _∙_, ap}
 use borrow.Author.Needs.{needs}
-use Rattle.lines.proofs.closed_line.Statement.{statement}
-use Rattle.lines.proofs.closed_line.Tie as tie
+use Rattle.lines.proofs.listed_line.Statement.{statement}
+use Rattle.lines.proofs.listed_line.Tie as tie
 
 listed-figures-requires : tie.Need-listed-figures-requires
 listed-figures-requires c κs = search needs
@@ -18,15 +17,14 @@ same-length : tie.Need-same-length
 same-length c = search needs
 
 returns : tie.Need-returns
-unfolding lineFor
 returns c =
-    let a = c .before .before .before .before .before .before .before .before .before .args in
+    let a = c .before .before .before .before .before .before .before .args in
     let l = c .before .before .before .before .before .listed-figures in
     let x = c .before .before .second-line in
-    let v = lastListed (a .st) in
+    let v = listedOf (a .levels) (a .second) in
     let e : take (l .result .n) (l .result .figures) ≡ v = ap (λ (r : Listed). take (r .n) (r .figures)) (l .ensures) ∙ over-start (replicate 44 0) v (length v) refl in
     (rw e at (x .ensures .0), x .ensures .1, rw e at (x .ensures .2))
 
-pub closed-line-spec : {M : Type 1} → statement M
-closed-line-spec =
+pub listed-line-spec : {M : Type 1} → statement M
+listed-line-spec =
     tie.close (tie.spec listed-figures-requires second-line-requires same-length returns)

@@ -1,0 +1,4 @@
+pub mod Voids
+pub mod Discards
+pub mod Refuted
+pub mod Unique

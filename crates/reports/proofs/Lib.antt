@@ -1,0 +1,4 @@
+pub mod Lists
+pub mod Figures
+pub mod Demand
+pub mod Reports
