@@ -126,10 +126,21 @@ static int mark_tells(uint64_t answer, const uint8_t *record, size_t len) {
     return good;
 }
 
+/* The path's causes, which are looked up, by their equations from what the report says of the path: with none of the four, aTSF is a dTIM
+   that acts. */
+static int path_causes(uint64_t r) {
+    const unsigned ssf = OTN_PATH_SSF(r), ais = OTN_PATH_DAIS(r), oci = OTN_PATH_DOCI(r), lck = OTN_PATH_DLCK(r);
+    const unsigned up = !(ssf | ais | oci | lck), acts = up & OTN_PATH_ATSF(r);
+    int good = OTN_PATH_COCI(r) == (oci & !ssf) && OTN_PATH_CLCK(r) == (lck & !ssf) && OTN_PATH_CSSF(r) == (ssf | ais);
+    good &= OTN_PATH_CTIM(r) == (OTN_PATH_DTIM(r) & up);
+    return good & (OTN_PATH_CDEG(r) == (OTN_PATH_DDEG(r) & up & !acts)) & (OTN_PATH_CBDI(r) == (OTN_PATH_DBDI(r) & up & !acts));
+}
+
 static uint64_t step(uint8_t flags, uint8_t sm, uint8_t pm) {
     memcpy(before, sup, ALL);
     uint64_t answer = otn_step(sup, ALL, overhead, OTN_OVERHEAD_BYTES, flags, sm, pm);
     check(otn_refusal(answer) ? same(0, ALL) : step_leaves(flags), "step, the bytes that it leaves");
+    check(otn_refusal(answer) || path_causes(answer), "step, the path's causes");
     return answer;
 }
 
@@ -137,6 +148,7 @@ static uint64_t step_levels(uint8_t flags, uint8_t sm, uint8_t pm, const uint8_t
     memcpy(before, sup, ALL);
     uint64_t answer = otn_step_levels(sup, ALL, overhead, OTN_OVERHEAD_BYTES, flags, sm, pm, t[0], t[1], t[2], t[3], t[4], t[5]);
     check(otn_refusal(answer) ? same(0, ALL) : step_leaves(flags), "step_levels, the bytes that it leaves");
+    check(otn_refusal(answer) || path_causes(answer), "step_levels, the path's causes");
     return answer;
 }
 
@@ -1086,7 +1098,7 @@ enum { FRESH, LEVEL, STEP, STEP_LEVELS, MARK, PENDING, TRACE, LEVEL_REPORT, LEVE
 static struct {
     const char *name;
     long bound, deepest;
-} of_call[CALLS] = {{"otn_fresh", 256, 0}, {"otn_level", 512, 0}, {"otn_step", 704, 0}, {"otn_step_levels", 768, 0},
+} of_call[CALLS] = {{"otn_fresh", 256, 0}, {"otn_level", 512, 0}, {"otn_step", 960, 0}, {"otn_step_levels", 1024, 0},
                     {"otn_mark", 960, 0}, {"otn_pending", 768, 0}, {"otn_trace", 448, 0}, {"otn_level_report", 384, 0},
                     {"otn_level_trace", 512, 0}};
 

@@ -10,6 +10,7 @@
 
 pub mod card;
 pub mod cases;
+pub mod causes_cover;
 pub mod cover;
 pub mod explain;
 pub mod frame;

@@ -708,7 +708,7 @@ fn directed_cases() {
         assert_eq!(list(&case.bytes), case.listing, "{path:?}");
         count += 1;
     }
-    assert_eq!(count, 123);
+    assert_eq!(count, 125);
 }
 
 #[test]

@@ -32,6 +32,9 @@ use Rattle.word.specs.Report.{reportWord}
 use Rattle.tandem.specs.Levels.{isLevel, levelAt}
 use Rattle.tandem.specs.Tandem.{freshTandem, giveRefusal, withLevel, givenBy, frameChecks, frameRefusal, framedOf, levelReport, levelTraced}
 use Rattle.tandem.specs.declared.Tandem.{Tandem}
+use Rattle.tandem.specs.declared.TandemStepped.{TandemStepped}
+use Rattle.engines.specs.Engines.{framedByTable}
+use Rattle.engines.proofs.Engines.{engines-alike}
 use Rattle.bay.specs.Bay.{recordAt, givenIn, tracedIn}
 use Rattle.bays.specs.Image.{tandemBytes, tandemFrom}
 use Rattle.late.specs.Late.{freshLate, nextReport, pendingOf, lateMarked}
@@ -105,12 +108,18 @@ module _ (sup overhead : List ℕ) (flags sm pm : ℕ) (counts : List ℕ) where
     unfolding frameRefusal
     overhead-long z = eqb-true (length overhead) 64 (passed 4 (frameChecks (tandemFrom (take 2448 sup)) overhead flags sm pm counts) refl (sym by-value ∙ z) .0)
 
-    pub step-done : (w : ℕ) (x : List ℕ) → n ≡ 0 → w ≡ reportWord (framedOf (tandemFrom (take 2448 sup)) overhead flags sm pm counts .report)
-        → x ≡ tandemBytes (framedOf (tandemFrom (take 2448 sup)) overhead flags sm pm counts .tandem) → StepCall sup overhead flags sm pm counts w (x ++ drop 2448 sup)
+    -- the table's engine answers as the equations do
+    pub step-done : (w : ℕ) (x : List ℕ) → n ≡ 0 → w ≡ reportWord (framedByTable (tandemFrom (take 2448 sup)) overhead flags sm pm counts .report)
+        → x ≡ tandemBytes (framedByTable (tandemFrom (take 2448 sup)) overhead flags sm pm counts .tandem) → StepCall sup overhead flags sm pm counts w (x ++ drop 2448 sup)
     unfolding callAnswer callSup lateFrom
     step-done w x z u v =
         let y : callRefusal sup overhead flags sm pm counts ≡ 0 = number-is ∙ z in
-        record { answers = rw y u; holds = rw y (slot-kept sup b (framedOf (tandemFrom (take 2448 sup)) overhead flags sm pm counts .tandem) x v) }
+        let same = engines-alike (tandemFrom (take 2448 sup)) overhead flags sm pm counts .alike in
+        let v' : x ≡ tandemBytes (framedOf (tandemFrom (take 2448 sup)) overhead flags sm pm counts .tandem) = v ∙ ap (λ (a : TandemStepped). tandemBytes (a .tandem)) same in
+        record {
+          answers = rw y (u ∙ ap (λ (a : TandemStepped). reportWord (a .report)) same);
+          holds = rw y (slot-kept sup b (framedOf (tandemFrom (take 2448 sup)) overhead flags sm pm counts .tandem) x v');
+        }
 
     pub step-refused : (w : ℕ) → (n ≡ 0 → ⊥) → w ≡ n → StepCall sup overhead flags sm pm counts w sup
     unfolding callAnswer callSup

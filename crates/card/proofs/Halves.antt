@@ -10,8 +10,6 @@ use lib.ListN.{length, getD, take, drop, length-drop, drop-of-length-le}
 use lib.Seq.{take-all, take-at, drop-at, length-take-le, getD-drop}
 use borrow.Author.Tests.{eq-eqb, ne-eqb, le-leb, lt-ltb}
 use Rattle.answer.specs.Checks.{firstOf}
-use Rattle.answer.proofs.Checks.{passed}
-use Rattle.answer.proofs.Cond.{and-left}
 use Rattle.codec.specs.Over.{bytesIn}
 use Rattle.codec.proofs.Overs.{all-in}
 use Rattle.words.specs.Words.{flat, wordsIn}
@@ -22,7 +20,7 @@ use Rattle.level.specs.Level.{levelActions, levelCauses}
 use Rattle.level.specs.declared.LevelStands.{LevelStands}
 use Rattle.level.specs.declared.LevelActions.{LevelActions}
 use Rattle.level.specs.declared.LevelCauses.{LevelCauses}
-use Rattle.supervisor.specs.Supervisor.{stepRefusal, stepOf, frameOf, nextSecond, markOf}
+use Rattle.supervisor.specs.Supervisor.{frameOf, nextSecond, markOf}
 use Rattle.supervisor.specs.declared.Supervisor.{Supervisor}
 use Rattle.ranges.specs.Sound.{sound}
 use Rattle.numbers.specs.declared.Head.{Head}
@@ -30,10 +28,11 @@ use Rattle.numbers.specs.Numbers.{headIn}
 use Rattle.numbers.proofs.Strips.{both}
 use Rattle.image.specs.Image.{loadOf, bytesOf, Stored}
 use Rattle.image.proofs.Bytes.{length-bytes, whole-image}
-use Rattle.tandem.specs.Levels.{framedLevels, levelAt, lowTo}
-use Rattle.tandem.specs.Tandem.{freshTandem, requestChecks, placeChecks, requestRefusal, giveRefusal, withLevel, frameChecks, frameRefusal, framedOf, markedOf, ssfNow, levelReport, levelTraced}
+use Rattle.tandem.specs.Levels.{framedLevels, levelAt}
+use Rattle.tandem.specs.Tandem.{freshTandem, requestChecks, placeChecks, requestRefusal, giveRefusal, withLevel, frameRefusal, markedOf, ssfNow, levelReport, levelTraced}
 use Rattle.tandem.specs.declared.Tandem.{Tandem}
 use Rattle.tandem.proofs.Refusals.{first-after, request-same}
+use Rattle.engines.specs.Engines.{framedBy, framedByTable}
 use Rattle.bay.specs.Bay.{baySound, blankBay, gaveIn, framedIn, MarkAt, givenIn, standsIn, tracedIn}
 use Rattle.bays.specs.Image.{bayBytes, tandemBytes, tandemFrom, tandemSound}
 use Rattle.bays.specs.Bays.{bayOf, InBay}
@@ -95,21 +94,15 @@ stored-is l x y s n t e =
 -- An accepted frame and an accepted mark, by value.
 
 module _ (t : Tandem) (overhead : List ℕ) (flags sm pm : ℕ) (counts : List ℕ) (e : frameRefusal t overhead flags sm pm counts ≡ 0) where
-  base-taken : stepRefusal (t .base) overhead flags sm pm ≡ 0
-  unfolding stepRefusal frameRefusal
-  base-taken =
-      let a = passed 4 (frameChecks t overhead flags sm pm counts) refl e in
-      rw (a .0, a .1 .0, and-left (leb sm 8 && leb pm 8) (lowTo 6 counts) (a .1 .1 .0), a .1 .1 .1 .0)
+  framed-report : framedByTable t overhead flags sm pm counts .report ≡ reportedOf (t .base) overhead flags sm pm .report
+  unfolding framedBy
+  framed-report = rw e
 
-  framed-report : framedOf t overhead flags sm pm counts .report ≡ reportedOf (t .base) overhead flags sm pm .report
-  unfolding framedOf stepOf
-  framed-report = rw (e, base-taken)
-
-  framed-tandem : tandemBytes (framedOf t overhead flags sm pm counts .tandem)
+  framed-tandem : tandemBytes (framedByTable t overhead flags sm pm counts .tandem)
       ≡ bytesOf (frameOf (t .base) overhead flags sm pm)
       ++ bayBytes flags (framedLevels (t .levels) (reportedOf (t .base) overhead flags sm pm .report .path .ssf) (reportedOf (t .base) overhead flags sm pm .multi) overhead counts)
-  unfolding framedOf stepOf tandemBytes
-  framed-tandem = rw (e, base-taken)
+  unfolding framedBy tandemBytes
+  framed-tandem = rw e
 
 -- what is said of the supervisor is said of its first part
 pub k-here : (l : List ℕ) (k : ℕ) → k ≡ tandemFrom l .base .settings .k → k ≡ loadOf (take 688 l) .settings .k
@@ -151,7 +144,8 @@ module _ (l : List ℕ) (b : tandemSound l ≡ true) where
       → frameRefusal t overhead flags sm pm counts ≡ 0 → a ≡ reportedOf (loadOf (take 688 l)) overhead flags sm pm
       → x ≡ bytesOf (frameOf (loadOf (take 688 l)) overhead flags sm pm)
       → y ≡ framedIn (take 1760 (drop 688 (firstOver l x))) flags (a .report .path .ssf) (a .multi) (take 64 overhead) counts → w ≡ reportWord (a .report)
-      → (w ≡ reportWord (framedOf t overhead flags sm pm counts .report)) × (lastOver (firstOver l x) y ≡ tandemBytes (framedOf t overhead flags sm pm counts .tandem))
+      → (w ≡ reportWord (framedByTable t overhead flags sm pm counts .report))
+      × (lastOver (firstOver l x) y ≡ tandemBytes (framedByTable t overhead flags sm pm counts .tandem))
   frame-is overhead flags sm pm counts a w x y k e ea ex ey ew =
       let s : Supervisor = loadOf (take 688 l) in
       let nx : length x ≡ 688 = ap length ex ∙ length-bytes (frameOf s overhead flags sm pm) (frame-sizes s (ranged (take 688 l) (first-sound l b)) overhead flags sm pm) in

@@ -11,7 +11,8 @@ use Rattle.codec.proofs.Pieces.{length-joined}
 use Rattle.words.specs.Words.{flat, wordsIn}
 use Rattle.overhead.specs.Overhead.{overheadOf}
 use Rattle.overhead.specs.declared.Overhead.{Overhead}
-use Rattle.causes.specs.Causes.{ssfOf, timActs, reportOf}
+use Rattle.causes.specs.Causes.{ssfOf, timActs}
+use Rattle.lookup.specs.Lookup.{reportByTable}
 use Rattle.causes.specs.declared.Standing.{Standing}
 use Rattle.causes.specs.declared.SectionStands.{SectionStands}
 use Rattle.causes.specs.declared.PathStands.{PathStands}
@@ -139,10 +140,10 @@ module _ (l : List ℕ) (e : sound l ≡ true) (overhead : List ℕ) (flags sm p
   l4 = take 64 l3 ++ (x4 ++ drop 48 (drop 64 l3))
 
   pub filed-is : a ≡ layeredOf (loadOf l) overhead flags sm pm → l3 ≡ unfiled (loadOf l) (frameOf (loadOf l) overhead flags sm pm)
-      → rep ≡ reportOf (a .standing) sm pm → x4 ≡ talliedIn (take 48 (drop 64 l3)) (rep .head)
+      → rep ≡ reportByTable (a .standing) sm pm → x4 ≡ talliedIn (take 48 (drop 64 l3)) (rep .head)
       → (_≡_ {A = Reported} (record { report = rep; multi = a .multi }) (reportedOf (loadOf l) overhead flags sm pm))
       × (l4 ≡ bytesOf (frameOf (loadOf l) overhead flags sm pm))
-  unfolding reportOf
+  unfolding reportByTable
   filed-is ed i3 er ht =
       let s : Supervisor = loadOf l in
       let r : Ranged s = ranged l e in
@@ -153,7 +154,7 @@ module _ (l : List ℕ) (e : sound l ≡ true) (overhead : List ℕ) (flags sm p
       let ps : List Piece = fourOf (lineFront t) C S P in
       let z3 : Sized ps = (refl, (counts-long s, (held-long (sectionHeld t) (section-sizes s r overhead flags sm pm), (held-long (pathHeld t) (path-sizes s r overhead flags sm pm), tt)))) in
       let b3 : take 48 (drop 64 l3) ≡ C = lent 1 ps l3 i3 z3 in
-      let v : rep ≡ reportOf (standsAfter s overhead flags) sm pm = er ∙ ap (λ (x : Layered). reportOf (x .standing) sm pm) ed in
+      let v : rep ≡ reportByTable (standsAfter s overhead flags) sm pm = er ∙ ap (λ (x : Layered). reportByTable (x .standing) sm pm) ed in
       let h : x4 ≡ flat (countsOf (t .second)) = rw (b3, v) at ht ∙ in-frame s r overhead flags sm pm .tally in
       let i4 : l4 ≡ joined (fourOf (lineFront t) x4 S P) = back 1 ps l3 x4 i3 z3 (omega arith) in
       (rw (v, ed), i4 ∙ ap (λ (x : List ℕ). joined (fourOf (lineFront t) x S P)) h ∙ sym (four-is t))

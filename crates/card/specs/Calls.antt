@@ -10,7 +10,8 @@ use lib.ListN.{length}
 use Rattle.answer.specs.Checks.{Check, check, firstOf}
 use Rattle.words.specs.Words.{flat}
 use Rattle.codec.specs.Over.{poured}
-use Rattle.causes.specs.Causes.{timActs, reportOf}
+use Rattle.causes.specs.Causes.{timActs}
+use Rattle.lookup.specs.Lookup.{reportByTable}
 use Rattle.layer.specs.Layer.{timOf}
 use Rattle.second.specs.Second.{closedOf, figuresOf}
 use Rattle.settings.specs.Settings.{settingsChecks, settingsRefusal, optionsOf}
@@ -130,13 +131,13 @@ unfiled before after =
     (headBytes (lineHead after) ++ alignBytes (after .layers .align))
     ++ (flat (countsOf (before .second)) ++ (heldBytes (sectionHeld after) ++ (heldBytes (pathHeld after) ++ [])))
 
--- a frame in line, section and path: what stands after it or its report, and the multiframe, which the levels take
+-- a frame in line, section and path: what stands after it or its report by the table, and the multiframe, which the levels take
 abbrev pub layeredOf : Supervisor → List ℕ → ℕ → ℕ → ℕ → Layered
 layeredOf s overhead flags sm pm = record { standing = standsAfter s overhead flags; multi = frameOf s overhead flags sm pm .layers .align .multi }
 
 abbrev pub reportedOf : Supervisor → List ℕ → ℕ → ℕ → ℕ → Reported
 reportedOf s overhead flags sm pm =
-    record { report = reportOf (standsAfter s overhead flags) sm pm; multi = frameOf s overhead flags sm pm .layers .align .multi }
+    record { report = reportByTable (standsAfter s overhead flags) sm pm; multi = frameOf s overhead flags sm pm .layers .align .multi }
 
 unfoldable pub callAnswer : List ℕ → List ℕ → ℕ → ℕ → ℕ → List ℕ → ℕ
 callAnswer sup overhead flags sm pm counts =

@@ -25,7 +25,8 @@ ghost use Rattle.image.specs.Image.{loadOf, bytesOf};
 ghost use Rattle.numbers.specs.Held.{heldIn};
 ghost use Rattle.word.specs.Report.{reportWord};
 ghost use Rattle.tandem.specs.Levels.{lowTo};
-ghost use Rattle.tandem.specs.Tandem.{freshTandem, giveRefusal, withLevel, frameRefusal, framedOf, markedOf, ssfNow, levelReport};
+ghost use Rattle.tandem.specs.Tandem.{freshTandem, giveRefusal, withLevel, frameRefusal, markedOf, ssfNow, levelReport};
+ghost use Rattle.engines.specs.Engines.{framedByTable};
 ghost use Rattle.late.specs.Late.{freshLate, sectionErred, levelsErred, nextReport, lateMarked};
 ghost use Rattle.bays.specs.Image.{tandemBytes, tandemFrom, tandemSound};
 ghost use Rattle.slots.specs.Image.{lateBytes, lateFrom, lateSound};
@@ -243,7 +244,7 @@ fn layers_in(sup: &mut [u8], overhead: &[u8], flags: u8, sm: u8, pm: u8) -> Laye
     }
 }
 
-// An accepted frame in sound bytes of line, section and path: their layers, and the frame is filed under its head.
+// An accepted frame in sound bytes of line, section and path: their layers, its report by the table, and the frame is filed under its head.
 fn step_in(sup: &mut [u8], overhead: &[u8], flags: u8, sm: u8, pm: u8) -> Reported
     requires { ⌜ length (now sup) ≡ 688 ⌝ }
     requires { ⌜ sound (now sup) ≡ true ⌝ }
@@ -253,7 +254,7 @@ fn step_in(sup: &mut [u8], overhead: &[u8], flags: u8, sm: u8, pm: u8) -> Report
     let a = layers_in(sup, overhead, flags, sm, pm);
     let standing = a.standing;
     let multi = a.multi;
-    let report = causes::report_of(standing, sm, pm);
+    let report = lookup::report_by_table(standing, sm, pm);
     place::tally_at(&mut sup[64..112], report.head);
     Reported {
         report: report,
@@ -267,7 +268,7 @@ fn frame_in(sup: &mut [u8], overhead: &[u8], flags: u8, sm: u8, pm: u8, counts: 
     requires { ⌜ tandemSound (now sup) ≡ true ⌝ }
     requires { ⌜ length (now overhead) ≡ 64 ⌝ }
     requires { ⌜ frameRefusal (tandemFrom (now sup)) (now overhead) flags sm pm counts ≡ 0 ⌝ }
-    ensures { λ r. ⌜ (r ≡ reportWord (framedOf (tandemFrom (now (sup .entry))) (now (overhead .entry)) flags sm pm counts .report)) × (now (sup .exit) ≡ tandemBytes (framedOf (tandemFrom (now (sup .entry))) (now (overhead .entry)) flags sm pm counts .tandem)) ⌝ }
+    ensures { λ r. ⌜ (r ≡ reportWord (framedByTable (tandemFrom (now (sup .entry))) (now (overhead .entry)) flags sm pm counts .report)) × (now (sup .exit) ≡ tandemBytes (framedByTable (tandemFrom (now (sup .entry))) (now (overhead .entry)) flags sm pm counts .tandem)) ⌝ }
 {
     let a = step_in(&mut sup[0..688], overhead, flags, sm, pm);
     let report = a.report;

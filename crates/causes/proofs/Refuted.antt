@@ -10,6 +10,7 @@ use Rattle.signal.specs.declared.Signal.the-variants.{Clear}
 use Rattle.causes.specs.Causes.{ssfOf, timActs, headOf, reportOf, noReport}
 use Rattle.causes.specs.declared.Standing.{Standing}
 use Rattle.causes.specs.declared.Report.{Report}
+use Rattle.causes.specs.declared.PathCauses.{PathCauses}
 use Rattle.causes.proofs.ssf_of.Kinds as ssf-of-kinds
 use Rattle.causes.proofs.ssf_of.Reads as ssf-of-reads
 use Rattle.causes.proofs.tim_acts.Kinds as tim-acts-kinds
@@ -18,6 +19,12 @@ use Rattle.causes.proofs.path_down.Kinds as path-down-kinds
 use Rattle.causes.proofs.path_down.Reads as path-down-reads
 use Rattle.causes.proofs.head_of.Kinds as head-of-kinds
 use Rattle.causes.proofs.head_of.Reads as head-of-reads
+use Rattle.causes.proofs.causes_by.Kinds as causes-by-kinds
+use Rattle.causes.proofs.causes_by.Reads as causes-by-reads
+use Rattle.causes.proofs.path_ssf.Kinds as path-ssf-kinds
+use Rattle.causes.proofs.path_ssf.Reads as path-ssf-reads
+use Rattle.causes.proofs.report_with.Kinds as report-with-kinds
+use Rattle.causes.proofs.report_with.Reads as report-with-reads
 use Rattle.causes.proofs.report_of.Kinds as report-of-kinds
 use Rattle.causes.proofs.report_of.Reads as report-of-reads
 use Rattle.causes.proofs.nothing.Kinds as nothing-kinds
@@ -47,6 +54,22 @@ pub ais-before-tsf : (κs : Lfts 0) (a : Dens κs head-of-kinds.ps) (s : AtExit 
     → a .0 .line .tsf ≡ true → a .0 .line .ais ≡ true → head-of-reads.Post κs a 2 s → ⊥
 unfolding headOf
 ais-before-tsf κs a s tsf ais e = let h : _≡_ {A = ℕ} 2 1 = simp tsf at e in omega arith
+
+-- where dOCI stands with SSF, it is no cause
+pub oci-under-ssf : (κs : Lfts 0) (a : Dens κs causes-by-kinds.ps) (x : PathCauses) (s : AtExit (endedOf 0 causes-by-kinds.ps causes-by-kinds.r) κs)
+    → a .0 ≡ true → a .1 .1 .0 ≡ true → x .oci ≡ true → causes-by-reads.Post κs a x s → ⊥
+oci-under-ssf κs a x s ssf oci c e = let h : false ≡ true = simp (e, ssf, oci) at c in true≢false (sym h)
+
+-- a section dTIM that TIMActDis keeps from acting is no SSF of the path
+pub disabled-ssf : (κs : Lfts 0) (a : Dens κs path-ssf-kinds.ps) (s : AtExit (endedOf 0 path-ssf-kinds.ps path-ssf-kinds.r) κs)
+    → ssfOf (a .0 .line) ≡ false → a .0 .section .disabled ≡ true → a .0 .section .tim ≡ true → path-ssf-reads.Post κs a true s → ⊥
+unfolding timActs
+disabled-ssf κs a s ssf dis tim e = true≢false (simp (ssf, tim, dis) at e)
+
+-- the path's causes are the ones handed in
+pub causes-made : (κs : Lfts 0) (a : Dens κs report-with-kinds.ps) (x : Report) (s : AtExit (endedOf 0 report-with-kinds.ps report-with-kinds.r) κs)
+    → a .0 .oci ≡ true → x .causes .path .oci ≡ false → report-with-reads.Post κs a x s → ⊥
+causes-made κs a x s oci c e = true≢false (simp (e, oci) at c)
 
 -- cLOM is without dLOF
 pub lom-under-lof : (κs : Lfts 0) (a : Dens κs report-of-kinds.ps) (x : Report) (s : AtExit (endedOf 0 report-of-kinds.ps report-of-kinds.r) κs)

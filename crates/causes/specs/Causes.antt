@@ -69,16 +69,21 @@ pathActions ssf d violations = record {
 }
 
 -- "cOCI, cLCK without SSF. cTIM = dTIM without SSF, dAIS, dOCI, dLCK. cDEG, cBDI without those four and without TIM acts.
--- cSSF = SSF or dAIS." (14.2.1.2)
+-- cSSF = SSF or dAIS." (14.2.1.2) They go by "eight yes-or-no inputs (SSF, dAIS, dOCI, dLCK, dTIM, TIMActDis, dDEG, dBDI)" (document 02).
+abbrev pub causesBy : (ssf ais oci lck tim disabled deg bdi : Bool) → PathCauses
+causesBy ssf ais oci lck tim disabled deg bdi =
+    let down : Bool = ssf || ais || oci || lck in
+    record {
+      oci = oci && not ssf;
+      lck = lck && not ssf;
+      tim = tim && not down;
+      deg = deg && not (down || timActs tim disabled);
+      bdi = bdi && not (down || timActs tim disabled);
+      ssf = ssf || ais;
+    }
+
 abbrev pub pathCauses : Bool → PathStands → PathCauses
-pathCauses ssf d = record {
-  oci = isOci (d .signal) && not ssf;
-  lck = isLck (d .signal) && not ssf;
-  tim = d .tim && not (pathDown ssf d);
-  deg = d .deg && not (pathDown ssf d || timActs (d .tim) (d .disabled));
-  bdi = d .bdi && not (pathDown ssf d || timActs (d .tim) (d .disabled));
-  ssf = ssf || isAis (d .signal);
-}
+pathCauses ssf d = causesBy ssf (isAis (d .signal)) (isOci (d .signal)) (isLck (d .signal)) (d .tim) (d .disabled) (d .deg) (d .bdi)
 
 -- "Heads, the first that fits: 1 TSF-P, 2 OTUk-AIS, 3 dLOF, 4 dLOM, 5 section TIM acts, 6 path dAIS, 7 dOCI, 8 dLCK, 9 path TIM
 -- acts; otherwise 0, clear."
@@ -94,22 +99,30 @@ headOf d =
     (cond (isLck (d .path .signal)) 8
     (cond (timActs (d .path .tim) (d .path .disabled)) 9 0))))))))
 
-abbrev pub causesOf : Standing → Causes
-causesOf d = record {
+-- the causes of line, section and path, those of the path as one engine or the other has them; and by the equations
+abbrev pub causesWith : PathCauses → Standing → Causes
+causesWith path d = record {
   line = lineCauses (d .line);
   section = sectionCauses (ssfOf (d .line)) (d .section);
-  path = pathCauses (pathSsf d) (d .path);
+  path = path;
 }
 
--- all that is answered of a frame
-unfoldable pub reportOf : Standing → ℕ → ℕ → Report
-reportOf d sm pm = record {
+abbrev pub causesOf : Standing → Causes
+causesOf d = causesWith (pathCauses (pathSsf d) (d .path)) d
+
+-- all that is answered of a frame, again by the path's causes
+abbrev pub reportWith : PathCauses → Standing → ℕ → ℕ → Report
+reportWith path d sm pm = record {
   standing = d;
   section = sectionActions (ssfOf (d .line)) (d .section) sm;
   path = pathActions (pathSsf d) (d .path) pm;
-  causes = causesOf d;
+  causes = causesWith path d;
   head = headOf d;
 }
+
+-- by the equations
+unfoldable pub reportOf : Standing → ℕ → ℕ → Report
+reportOf d sm pm = reportWith (pathCauses (pathSsf d) (d .path)) d sm pm
 
 -- nothing stands
 abbrev pub nothingStands : Standing

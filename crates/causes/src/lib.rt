@@ -2,7 +2,7 @@
 use signal::Signal;
 ghost use mathlib.Core.Path.{_≡_};
 ghost use mathlib.Core.Bool.{cond};
-ghost use Rattle.causes.specs.Causes.{ssfOf, timActs, lineCauses, sectionActions, sectionCauses, pathDown, pathActions, pathCauses, headOf, reportOf, nothingStands, noReport};
+ghost use Rattle.causes.specs.Causes.{ssfOf, timActs, lineCauses, sectionActions, sectionCauses, pathSsf, pathDown, pathActions, causesBy, pathCauses, headOf, reportWith, reportOf, nothingStands, noReport};
 
 // The line: alignment states, the flags TSF-P and OTUk-AIS, dLOF and dLOM.
 pub struct Line {
@@ -170,21 +170,46 @@ fn path_actions(ssf: bool, d: PathStands, violations: u8) -> PathActions
     }
 }
 
+// The path's causes by the equations, of the eight inputs that they go by.
+pub fn causes_by(
+    ssf: bool,
+    ais: bool,
+    oci: bool,
+    lck: bool,
+    tim: bool,
+    disabled: bool,
+    deg: bool,
+    bdi: bool,
+) -> PathCauses
+    ensures { λ r. ⌜ r ≡ causesBy ssf ais oci lck tim disabled deg bdi ⌝ }
+{
+    let down = ssf | ais | oci | lck;
+    let acts = tim_acts(tim, disabled);
+    PathCauses {
+        oci: oci & !ssf,
+        lck: lck & !ssf,
+        tim: tim & !down,
+        deg: deg & !(down | acts),
+        bdi: bdi & !(down | acts),
+        ssf: ssf | ais,
+    }
+}
+
 fn path_causes(ssf: bool, d: PathStands) -> PathCauses
     ensures { λ r. ⌜ r ≡ pathCauses ssf d ⌝ }
 {
     let signal = d.signal;
     let raised = signal::raised_by(signal);
-    let down = path_down(ssf, d);
-    let acts = tim_acts(d.tim, d.disabled);
-    PathCauses {
-        oci: raised.oci & !ssf,
-        lck: raised.lck & !ssf,
-        tim: d.tim & !down,
-        deg: d.deg & !(down | acts),
-        bdi: d.bdi & !(down | acts),
-        ssf: ssf | raised.ais,
-    }
+    causes_by(
+        ssf,
+        raised.ais,
+        raised.oci,
+        raised.lck,
+        d.tim,
+        d.disabled,
+        d.deg,
+        d.bdi,
+    )
 }
 
 // A head where it fits, otherwise the rest.
@@ -219,9 +244,20 @@ pub fn head_of(d: Standing) -> u8
     first(l.tsf, 1, two)
 }
 
-// The report of what stands, with the frame's violation counts.
-pub fn report_of(d: Standing, sm: u8, pm: u8) -> Report
-    ensures { λ r. ⌜ r ≡ reportOf d sm pm ⌝ }
+// The path's SSF: the section's aTSF.
+pub fn path_ssf(d: Standing) -> bool
+    ensures { λ r. ⌜ r ≡ pathSsf d ⌝ }
+{
+    let l = d.line;
+    let s = d.section;
+    let ssf = ssf_of(l);
+    let acts = tim_acts(s.tim, s.disabled);
+    ssf | acts
+}
+
+// The report of what stands, with the frame's violation counts and the path's causes as they were found.
+pub fn report_with(causes: PathCauses, d: Standing, sm: u8, pm: u8) -> Report
+    ensures { λ r. ⌜ r ≡ reportWith causes d sm pm ⌝ }
 {
     let l = d.line;
     let s = d.section;
@@ -229,19 +265,29 @@ pub fn report_of(d: Standing, sm: u8, pm: u8) -> Report
     let ssf = ssf_of(l);
     let section = section_actions(ssf, s, sm);
     let path = path_actions(section.tsf, p, pm);
-    let causes = Causes {
+    let all = Causes {
         line: line_causes(l),
         section: section_causes(ssf, s),
-        path: path_causes(section.tsf, p),
+        path: causes,
     };
     let head = head_of(d);
     Report {
         standing: d,
         section: section,
         path: path,
-        causes: causes,
+        causes: all,
         head: head,
     }
+}
+
+// The same, the path's causes by the equations.
+pub fn report_of(d: Standing, sm: u8, pm: u8) -> Report
+    ensures { λ r. ⌜ r ≡ reportOf d sm pm ⌝ }
+{
+    let p = d.path;
+    let ssf = path_ssf(d);
+    let causes = path_causes(ssf, p);
+    report_with(causes, d, sm, pm)
 }
 
 // Nothing stands: what a refusal reports.

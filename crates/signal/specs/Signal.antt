@@ -45,5 +45,12 @@ isLck Oci = false
 isLck Lck = true
 isLck Clear = false
 
+-- the one code that raises it; 0, which raises nothing, of none
+abbrev pub codeOf : Signal → ℕ
+codeOf Ais = 7
+codeOf Oci = 6
+codeOf Lck = 5
+codeOf Clear = 0
+
 abbrev pub raisedOf : Signal → Raised
 raisedOf s = record { ais = isAis s; oci = isOci s; lck = isLck s }

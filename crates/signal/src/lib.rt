@@ -1,7 +1,8 @@
 // What an accepted STAT stands for, and the defects that it raises.
 use filter::Stat;
 ghost use mathlib.Core.Path.{_≡_};
-ghost use Rattle.signal.specs.Signal.{signalOf, standsFor, raisedOf};
+ghost use lib.Dec.{eqb};
+ghost use Rattle.signal.specs.Signal.{signalOf, standsFor, codeOf, raisedOf};
 
 // The path's maintenance defects.
 pub struct Raised {
@@ -41,30 +42,28 @@ pub fn stands_for(s: Stat) -> Signal
     Signal::Clear
 }
 
-// The defects that a signal raises: one at most.
+// Whether a signal is the one that a code raises; 0 raises none.
+fn is_of(s: Signal, code: u8) -> bool
+    ensures { λ r. ⌜ r ≡ eqb (codeOf s) code ⌝ }
+{
+    match s {
+        Signal::Clear => 0 == code,
+        Signal::Lck => 5 == code,
+        Signal::Oci => 6 == code,
+        Signal::Ais => 7 == code,
+    }
+}
+
+// The defects that a signal raises: one at most. Each is a test of its own, so that what goes by all three need not branch.
 pub fn raised_by(s: Signal) -> Raised
     ensures { λ r. ⌜ r ≡ raisedOf s ⌝ }
 {
-    match s {
-        Signal::Clear => Raised {
-            ais: false,
-            oci: false,
-            lck: false,
-        },
-        Signal::Lck => Raised {
-            ais: false,
-            oci: false,
-            lck: true,
-        },
-        Signal::Oci => Raised {
-            ais: false,
-            oci: true,
-            lck: false,
-        },
-        Signal::Ais => Raised {
-            ais: true,
-            oci: false,
-            lck: false,
-        },
+    let ais = is_of(s, 7);
+    let oci = is_of(s, 6);
+    let lck = is_of(s, 5);
+    Raised {
+        ais: ais,
+        oci: oci,
+        lck: lck,
     }
 }

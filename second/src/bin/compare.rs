@@ -9,6 +9,7 @@
 //! LEDGER is taken where LEDGERS is not set.
 
 use second::card::{Card, LevelFields, RECORD, TOLD};
+use second::causes_cover::CausesCover;
 use second::cover::Cover;
 use second::explain::explain;
 use second::generate::{self, Generated, Item};
@@ -78,10 +79,11 @@ fn printed(path: &str, trace: &[u8]) -> String {
     text
 }
 
-/// What was exercised: of line, section and path, of the levels, and of neighbouring seconds.
+/// What was exercised: of line, section and path, of the path's causes, of the levels, and of neighbouring seconds.
 #[derive(Default)]
 struct Exercised {
     base: Cover,
+    causes: CausesCover,
     levels: LevelCover,
     seconds: SecondsCover,
 }
@@ -176,6 +178,7 @@ fn step(session: &mut Session, card: &mut Card, sup: u8, f: &Given, cover: &mut 
     };
     if let (Some(before), Some(s), 0) = (before, &card.supervisor, word & 255) {
         cover.base.frame(&before, &s.standing());
+        cover.causes.frame(&s.standing(), !s.provisioning.acts(1));
         cover.levels.follow(s, &mut session.stood);
         cover.seconds.frame(s);
         let acts = [s.provisioning.acts(0), s.provisioning.acts(1)];
@@ -578,8 +581,9 @@ fn parting(got: &str, expected: &str) -> String {
     }
 }
 
-/// The directed cases: the second program, each program and each card's calls against the listing and reports in the text.
-fn directed(dir: &str, programs: &Programs, write: &Option<String>) {
+/// The directed cases: the second program, each program and each card's calls against the listing and reports in the text. What they
+/// select of the path's causes counts.
+fn directed(dir: &str, programs: &Programs, write: &Option<String>, causes: &mut CausesCover) {
     let workers = Workers::start(programs);
     let mut names: Vec<_> = std::fs::read_dir(dir).expect("the cases are there").map(|e| e.unwrap().path()).collect();
     names.retain(|p| p.extension().is_some_and(|e| e == "txt"));
@@ -617,7 +621,9 @@ fn directed(dir: &str, programs: &Programs, write: &Option<String>) {
             bytes: Vec::new(),
             about: String::new(),
         };
-        let session = (g.items.len() < 100_000).then(|| session(&mut Random::new(count), &g, &mut Exercised::default()));
+        let mut cover = Exercised::default();
+        let session = (g.items.len() < 100_000).then(|| session(&mut Random::new(count), &g, &mut cover));
+        causes.add(&cover.causes);
         let explanation = programs.explanation(&case.bytes);
         workers.give(Task { whose, trace: case.bytes, listing: case.listing, explanation, session });
     }
@@ -651,11 +657,11 @@ fn main() {
         programs.ledgers = paths("LEDGER");
     }
     let began = Instant::now();
+    let mut cover = Exercised::default();
     if let Some(dir) = &cases {
-        directed(dir, &programs, &write);
+        directed(dir, &programs, &write, &mut cover.causes);
     }
     println!("seed {seed}, {traces} traces");
-    let mut cover = Exercised::default();
     let (mut listings, mut explanations) = (0u64, 0u64);
     let workers = Workers::start(&programs);
     for index in from..from + traces {
@@ -694,6 +700,9 @@ fn main() {
     let failures = DIFFERENCES.load(Ordering::Relaxed);
     let (table, mut wrong) = cover.base.table();
     println!("{table}");
+    let (table, of_causes) = cover.causes.table();
+    println!("{table}");
+    wrong.extend(of_causes);
     let (table, of_levels) = cover.levels.table();
     println!("{table}");
     wrong.extend(of_levels);

@@ -7,8 +7,8 @@ use Rattle.card.proofs.step_in.Tie as tie
 layers-in-requires : tie.Need-layers-in-requires
 layers-in-requires c κs = search needs
 
-report-of-requires : tie.Need-report-of-requires
-report-of-requires c κs = search needs
+report-by-table-requires : tie.Need-report-by-table-requires
+report-by-table-requires c κs = search needs
 
 sub-tally-at : tie.Need-sub-tally-at
 sub-tally-at c = search needs
@@ -29,14 +29,14 @@ returns : tie.Need-returns
 returns c =
     let a = c .before .before .before .before .before .before .before .before .before .before .before .before .before in
     let f = c .before .before .before .before .before .before .before .before .before .layers-in .ensures in
-    filed-is (now (a .args .sup)) (a .pre .1 .0) (now (a .args .overhead)) (a .args .flags) (a .args .sm) (a .args .pm) _ _ _ _ (f .0) (f .1) (c .before .before .before .before .report-of .ensures) (c .before .before .tally-at .ensures)
+    filed-is (now (a .args .sup)) (a .pre .1 .0) (now (a .args .overhead)) (a .args .flags) (a .args .sm) (a .args .pm) _ _ _ _ (f .0) (f .1) (c .before .before .before .before .report-by-table .ensures) (c .before .before .tally-at .ensures)
 
 pub step-in-spec : {M : Type 1} → statement M
 step-in-spec =
     tie.close
     (tie.spec
     layers-in-requires
-    report-of-requires
+    report-by-table-requires
     sub-tally-at
     part-tally-at-start
     part-tally-at-end

@@ -1,32 +1,19 @@
+use Rattle.signal.proofs.Codes.{by-codes}
 use borrow.Author.Needs.{needs}
 use Rattle.signal.proofs.raised_by.Statement.{statement}
 use Rattle.signal.proofs.raised_by.Tie as tie
 
-enum-told : tie.Need-enum-told
-enum-told c = search needs
+is-of-requires : tie.Need-is-of-requires
+is-of-requires c κs = search needs
 
-enum-told-2 : tie.Need-enum-told-2
-enum-told-2 c = search needs
+is-of-requires-2 : tie.Need-is-of-requires-2
+is-of-requires-2 c κs = search needs
 
-enum-told-3 : tie.Need-enum-told-3
-enum-told-3 c = search needs
-
-enum-told-4 : tie.Need-enum-told-4
-enum-told-4 c = search needs
+is-of-requires-3 : tie.Need-is-of-requires-3
+is-of-requires-3 c κs = search needs
 
 returns : tie.Need-returns
-returns c = rw (c .enum-told .given .1)
-
-returns-2 : tie.Need-returns-2
-returns-2 c = rw (c .enum-told2 .given .1)
-
-returns-3 : tie.Need-returns-3
-returns-3 c = rw (c .enum-told3 .given .1)
-
-returns-4 : tie.Need-returns-4
-returns-4 c = rw (c .enum-told4 .given .1)
+returns c = rw (c .before .before .is-of .ensures, c .before .is-of2 .ensures, c .is-of3 .ensures) (by-codes (c .before .before .before .args .s))
 
 pub raised-by-spec : {M : Type 1} → statement M
-raised-by-spec =
-    tie.close
-    (tie.spec enum-told enum-told-2 enum-told-3 enum-told-4 returns returns-2 returns-3 returns-4)
+raised-by-spec = tie.close (tie.spec is-of-requires is-of-requires-2 is-of-requires-3 returns)
