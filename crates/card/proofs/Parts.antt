@@ -12,10 +12,9 @@ use Rattle.words.specs.Words.{flat, wordsIn}
 use Rattle.overhead.specs.Overhead.{overheadOf}
 use Rattle.overhead.specs.declared.Overhead.{Overhead}
 use Rattle.causes.specs.Causes.{ssfOf, timActs}
-use Rattle.lookup.specs.Lookup.{reportByTable}
+use Rattle.lookup.specs.Lookup.{reportRaised, reportByTable}
 use Rattle.causes.specs.declared.Standing.{Standing}
 use Rattle.causes.specs.declared.SectionStands.{SectionStands}
-use Rattle.causes.specs.declared.PathStands.{PathStands}
 use Rattle.causes.specs.declared.Report.{Report}
 use Rattle.second.specs.declared.Blocks.{Blocks}
 use Rattle.second.specs.Second.{closedOf, figuresOf}
@@ -31,6 +30,7 @@ use Rattle.image.specs.Image.{lineHead, countsOf, linePieces, sectionHeld, path
 use Rattle.image.proofs.Bytes.{counts-long, held-long}
 use Rattle.image.proofs.Ranges.{arrays-of, same-ranges, round-trip}
 use Rattle.place.specs.declared.LineFrame.{LineFrame}
+use Rattle.place.specs.declared.PathFrame.{PathFrame}
 use Rattle.place.specs.Place.{LineAt, SectionAt, PathAt, talliedIn, CloseAt, openedIn}
 use Rattle.cycle.proofs.Parts.{lent, back}
 use Rattle.records.specs.Records.{lineFront, InFrame, InMark}
@@ -89,7 +89,7 @@ module _ (s : Supervisor) (r : Ranged s) (overhead : List ℕ) (flags sm pm : �
   pub frame-sizes : Arrays (frameOf s overhead flags sm pm)
   frame-sizes = record { section = section-sizes; path = path-sizes }
 
-module _ (l : List ℕ) (e : sound l ≡ true) (overhead : List ℕ) (flags sm pm : ℕ) (n : length overhead ≡ 64) (o : Overhead) (a : LineFrame) (ssf acts : Bool) (st : SectionStands) (pt : PathStands)
+module _ (l : List ℕ) (e : sound l ≡ true) (overhead : List ℕ) (flags sm pm : ℕ) (n : length overhead ≡ 64) (o : Overhead) (a : LineFrame) (ssf acts : Bool) (st : SectionStands) (pt : PathFrame)
     (x1 x2 x3 : List ℕ) where
   abbrev l1 : List ℕ
   l1 = x1 ++ drop 64 l
@@ -103,7 +103,7 @@ module _ (l : List ℕ) (e : sound l ≡ true) (overhead : List ℕ) (flags sm p
   pub layers-are : o ≡ overheadOf (take 64 overhead) → LineAt (take 64 l) (o .four) (o .three) (o .mfas) flags a x1 → ssf ≡ ssfOf (a .line)
       → SectionAt (take 288 (drop 112 l1)) ssf (a .multi) (o .section) sm st x2 → acts ≡ timActs (st .tim) (st .disabled)
       → PathAt (take 288 (drop 400 l2)) (ssf || acts) (a .multi) (o .path) pm pt x3
-      → (_≡_ {A = Layered} (record { standing = record { line = a .line; section = st; path = pt }; multi = a .multi }) (layeredOf (loadOf l) overhead flags sm pm))
+      → (_≡_ {A = Layered} (record { standing = record { line = a .line; section = st; path = pt .stands }; raised = pt .raised; multi = a .multi }) (layeredOf (loadOf l) overhead flags sm pm))
       × (l3 ≡ unfiled (loadOf l) (frameOf (loadOf l) overhead flags sm pm))
   layers-are given hl es hs ea hp =
       let eo : o ≡ overheadOf overhead = given ∙ ap overheadOf (take-all 64 overhead (omega arith)) in
@@ -140,10 +140,10 @@ module _ (l : List ℕ) (e : sound l ≡ true) (overhead : List ℕ) (flags sm p
   l4 = take 64 l3 ++ (x4 ++ drop 48 (drop 64 l3))
 
   pub filed-is : a ≡ layeredOf (loadOf l) overhead flags sm pm → l3 ≡ unfiled (loadOf l) (frameOf (loadOf l) overhead flags sm pm)
-      → rep ≡ reportByTable (a .standing) sm pm → x4 ≡ talliedIn (take 48 (drop 64 l3)) (rep .head)
+      → rep ≡ reportRaised (a .raised) (a .standing) sm pm → x4 ≡ talliedIn (take 48 (drop 64 l3)) (rep .head)
       → (_≡_ {A = Reported} (record { report = rep; multi = a .multi }) (reportedOf (loadOf l) overhead flags sm pm))
       × (l4 ≡ bytesOf (frameOf (loadOf l) overhead flags sm pm))
-  unfolding reportByTable
+  unfolding reportRaised
   filed-is ed i3 er ht =
       let s : Supervisor = loadOf l in
       let r : Ranged s = ranged l e in
@@ -154,7 +154,7 @@ module _ (l : List ℕ) (e : sound l ≡ true) (overhead : List ℕ) (flags sm p
       let ps : List Piece = fourOf (lineFront t) C S P in
       let z3 : Sized ps = (refl, (counts-long s, (held-long (sectionHeld t) (section-sizes s r overhead flags sm pm), (held-long (pathHeld t) (path-sizes s r overhead flags sm pm), tt)))) in
       let b3 : take 48 (drop 64 l3) ≡ C = lent 1 ps l3 i3 z3 in
-      let v : rep ≡ reportByTable (standsAfter s overhead flags) sm pm = er ∙ ap (λ (x : Layered). reportByTable (x .standing) sm pm) ed in
+      let v : rep ≡ reportByTable (standsAfter s overhead flags) sm pm = er ∙ ap (λ (x : Layered). reportRaised (x .raised) (x .standing) sm pm) ed in
       let h : x4 ≡ flat (countsOf (t .second)) = rw (b3, v) at ht ∙ in-frame s r overhead flags sm pm .tally in
       let i4 : l4 ≡ joined (fourOf (lineFront t) x4 S P) = back 1 ps l3 x4 i3 z3 (omega arith) in
       (rw (v, ed), i4 ∙ ap (λ (x : List ℕ). joined (fourOf (lineFront t) x S P)) h ∙ sym (four-is t))

@@ -10,6 +10,7 @@ use lib.ListN.{length}
 use Rattle.answer.specs.Checks.{Check, check, firstOf}
 use Rattle.words.specs.Words.{flat}
 use Rattle.codec.specs.Over.{poured}
+use Rattle.signal.specs.Signal.{raisedOf}
 use Rattle.causes.specs.Causes.{timActs}
 use Rattle.lookup.specs.Lookup.{reportByTable}
 use Rattle.layer.specs.Layer.{timOf}
@@ -133,7 +134,11 @@ unfiled before after =
 
 -- a frame in line, section and path: what stands after it or its report by the table, and the multiframe, which the levels take
 abbrev pub layeredOf : Supervisor → List ℕ → ℕ → ℕ → ℕ → Layered
-layeredOf s overhead flags sm pm = record { standing = standsAfter s overhead flags; multi = frameOf s overhead flags sm pm .layers .align .multi }
+layeredOf s overhead flags sm pm = record {
+  standing = standsAfter s overhead flags;
+  raised = raisedOf (standsAfter s overhead flags .path .signal);
+  multi = frameOf s overhead flags sm pm .layers .align .multi;
+}
 
 abbrev pub reportedOf : Supervisor → List ℕ → ℕ → ℕ → ℕ → Reported
 reportedOf s overhead flags sm pm =

@@ -11,6 +11,7 @@ use numbers::Head;
 use second::Frames;
 use second::Second;
 use settings::Request;
+use signal::Raised;
 use supervisor::Supervisor;
 ghost use mathlib.Core.Path.{_≡_};
 ghost use mathlib.Core.Bool.{true, cond};
@@ -32,13 +33,14 @@ ghost use Rattle.bays.specs.Image.{tandemBytes, tandemFrom, tandemSound};
 ghost use Rattle.slots.specs.Image.{lateBytes, lateFrom, lateSound};
 ghost use Rattle.card.specs.Calls.{provisionBy, FreshCall, requestBy, LevelCall, refusalBy, unfiled, layeredOf, reportedOf, StepCall, figuresAt, erredIn, MarkCall, PendingCall, TraceCall, actsIn, toldWord, LevelReportCall, LevelTraceCall};
 
-// A frame in line, section and path: what stands after it, and the multiframe, which the levels take.
+// A frame in line, section and path: what stands after it, the path's maintenance defects by themselves, and the multiframe, which the levels take.
 struct Layered {
     standing: Standing,
+    raised: Raised,
     multi: Multi,
 }
 
-// The same with its report.
+// Its report, and the multiframe.
 struct Reported {
     report: Report,
     multi: Multi,
@@ -233,13 +235,16 @@ fn layers_in(sup: &mut [u8], overhead: &[u8], flags: u8, sm: u8, pm: u8) -> Laye
     let ssf = causes::ssf_of(line);
     let section = place::section_at(&mut sup[112..400], ssf, multi, sf, sm);
     let acts = causes::tim_acts(section.tim, section.disabled);
-    let path = place::path_at(&mut sup[400..688], ssf | acts, multi, pf, pm);
+    let p = place::path_at(&mut sup[400..688], ssf | acts, multi, pf, pm);
+    let path = p.stands;
+    let raised = p.raised;
     Layered {
         standing: Standing {
             line: line,
             section: section,
             path: path,
         },
+        raised: raised,
         multi: multi,
     }
 }
@@ -253,8 +258,9 @@ fn step_in(sup: &mut [u8], overhead: &[u8], flags: u8, sm: u8, pm: u8) -> Report
 {
     let a = layers_in(sup, overhead, flags, sm, pm);
     let standing = a.standing;
+    let raised = a.raised;
     let multi = a.multi;
-    let report = lookup::report_by_table(standing, sm, pm);
+    let report = lookup::report_by_table(raised, standing, sm, pm);
     place::tally_at(&mut sup[64..112], report.head);
     Reported {
         report: report,

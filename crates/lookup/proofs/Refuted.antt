@@ -1,17 +1,16 @@
 -- Answers that tempting readings give, shut out by the contracts of this crate. Assumes nothing.
 use Prim.Native.Nat.{ℕ}
-use mathlib.Core.Path.{_≡_}
+use mathlib.Core.Path.{_≡_, _∙_}
 use mathlib.Core.Bool.{true, false, true≢false}
 use native.Mathlib.Omega.{arith}
 use contract.Lifetimes.{Lfts}
 use borrow.Fn.Kinds.{Dens, endedOf}
 use denote.Triple.Clauses.{AtExit}
 use Rattle.answer.specs.Answer.{NoAnswer}
-use Rattle.signal.specs.declared.Signal.the-variants.{Ais}
-use Rattle.causes.specs.Causes.{timActs, pathSsf, reportOf}
+use Rattle.causes.specs.Causes.{timActs, pathSsf}
 use Rattle.causes.specs.declared.Report.{Report}
 use Rattle.lookup.specs.Lookup.{causeTable, entry}
-use Rattle.lookup.proofs.Table.{reports-alike}
+use Rattle.lookup.proofs.Table.{by-equations}
 use Rattle.lookup.proofs.causes_by_table.Kinds as causes-by-table-kinds
 use Rattle.lookup.proofs.causes_by_table.Reads as causes-by-table-reads
 use Rattle.lookup.proofs.causes_by_equations.Kinds as causes-by-equations-kinds
@@ -36,7 +35,6 @@ lck-first s e = let h : _≡_ {A = ℕ} 1 2 = e in omega arith
 
 -- dAIS is cSSF
 pub ais-untold : (κs : Lfts 0) (a : Dens κs report-by-table-kinds.ps) (x : Report) (s : AtExit (endedOf 0 report-by-table-kinds.ps report-by-table-kinds.r) κs)
-    → pathSsf (a .0) ≡ false → a .0 .path .signal ≡ Ais → x .causes .path .ssf ≡ false → report-by-table-reads.Post κs a x s → ⊥
-unfolding reportOf
+    → pathSsf (a .1 .0) ≡ false → a .0 .ais ≡ true → x .causes .path .ssf ≡ false → report-by-table-reads.Post κs a x s → ⊥
 ais-untold κs a x s ssf ais c e =
-    let h : x ≡ reportOf (a .0) (a .1 .0) (a .1 .1 .0) = rw (reports-alike (a .0) (a .1 .0) (a .1 .1 .0)) at e in true≢false (simp (h, ssf, ais) at c)
+    let h = e ∙ by-equations (a .0) (a .1 .0) (a .1 .1 .0) (a .1 .1 .1 .0) in true≢false (simp (h, ssf, ais) at c)

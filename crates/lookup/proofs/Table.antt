@@ -6,12 +6,13 @@ use mathlib.Core.List.{List, [], _∷_}
 use lib.Dec.{T, eqb, eqb→eq}
 use lib.ListN.{getD}
 use Rattle.answer.proofs.Every.{beq-eq, every, at-each, together, part}
-use Rattle.signal.specs.Signal.{isAis, isOci, isLck}
+use Rattle.signal.specs.Signal.{raisedOf}
+use Rattle.signal.specs.declared.Raised.{Raised}
 use Rattle.causes.specs.Causes.{timActs, pathSsf, causesBy, reportWith, reportOf}
 use Rattle.causes.specs.declared.PathCauses.{PathCauses}
 use Rattle.causes.specs.declared.PathStands.{PathStands}
 use Rattle.causes.specs.declared.Standing.{Standing}
-use Rattle.lookup.specs.Lookup.{byteOf, causesIn, causeTable, entry, reportByTable, TableRule, CausesBack, ReportsAlike}
+use Rattle.lookup.specs.Lookup.{byteOf, causesIn, causeTable, entry, reportRaised, TableRule, CausesBack, ReportsAlike}
 
 -- whether the entry of eight inputs is the byte of the equations
 abbrev right : (ssf ais oci lck tim disabled deg bdi : Bool) → Bool
@@ -58,9 +59,16 @@ causes-back c =
     let bdi : r .bdi ≡ c .bdi = beq-eq _ _ (p 4) in
     let ssf : r .ssf ≡ c .ssf = beq-eq _ _ (p 5) in rw (oci, lck, tim, deg, bdi, ssf)
 
-pub reports-alike : ReportsAlike
-unfolding reportByTable reportOf
-reports-alike d sm pm =
+-- a report by the table is that of the equations, whatever three are handed in
+pub by-equations : (raised : Raised) (d : Standing) (sm pm : ℕ)
+    → let p : PathStands = d .path in
+    reportRaised raised d sm pm ≡ reportWith (causesBy (pathSsf d) (raised .ais) (raised .oci) (raised .lck) (p .tim) (p .disabled) (p .deg) (p .bdi)) d sm pm
+unfolding reportRaised
+by-equations raised d sm pm =
     let p : PathStands = d .path in
-    let e = table-rule .rule (pathSsf d) (isAis (p .signal)) (isOci (p .signal)) (isLck (p .signal)) (p .tim) (p .disabled) (p .deg) (p .bdi) in
+    let e = table-rule .rule (pathSsf d) (raised .ais) (raised .oci) (raised .lck) (p .tim) (p .disabled) (p .deg) (p .bdi) in
     ap (λ (c : PathCauses). reportWith c d sm pm) (ap causesIn e ∙ causes-back _)
+
+pub reports-alike : ReportsAlike
+unfolding reportOf
+reports-alike d sm pm = by-equations (raisedOf (d .path .signal)) d sm pm

@@ -7,7 +7,8 @@ use mathlib.Core.List.{List, [], _∷_, map}
 use lib.Dec.{eqb}
 use lib.ListN.{length, getD}
 use Rattle.answer.specs.Bits.{flag}
-use Rattle.signal.specs.Signal.{isAis, isOci, isLck}
+use Rattle.signal.specs.Signal.{raisedOf}
+use Rattle.signal.specs.declared.Raised.{Raised}
 use Rattle.causes.specs.Causes.{pathSsf, causesBy, reportWith, reportOf}
 use Rattle.causes.specs.declared.PathStands.{PathStands}
 use Rattle.causes.specs.declared.PathCauses.{PathCauses}
@@ -58,13 +59,16 @@ causeTable =
 unfoldable pub entry : (ssf ais oci lck tim disabled deg bdi : Bool) → ℕ
 entry ssf ais oci lck tim disabled deg bdi = getD causeTable (indexOf ssf ais oci lck tim disabled deg bdi) 0
 
--- the path's causes by the table
-abbrev pub causesByTable : Bool → PathStands → PathCauses
-causesByTable ssf d = causesIn (entry ssf (isAis (d .signal)) (isOci (d .signal)) (isLck (d .signal)) (d .tim) (d .disabled) (d .deg) (d .bdi))
+-- the path's causes by the table; dAIS, dOCI and dLCK as they are handed in
+abbrev pub causesByTable : Bool → Raised → PathStands → PathCauses
+causesByTable ssf raised d = causesIn (entry ssf (raised .ais) (raised .oci) (raised .lck) (d .tim) (d .disabled) (d .deg) (d .bdi))
 
--- the report of a frame, the path's causes by the table
-unfoldable pub reportByTable : Standing → ℕ → ℕ → Report
-reportByTable d sm pm = reportWith (causesByTable (pathSsf d) (d .path)) d sm pm
+-- the report of a frame, the path's causes by the table: with three that are handed in, and with those of the signal that stands
+unfoldable pub reportRaised : Raised → Standing → ℕ → ℕ → Report
+reportRaised raised d sm pm = reportWith (causesByTable (pathSsf d) raised (d .path)) d sm pm
+
+abbrev pub reportByTable : Standing → ℕ → ℕ → Report
+reportByTable d sm pm = reportRaised (raisedOf (d .path .signal)) d sm pm
 
 -- "Prove the rule once over the whole table": 256 entries, and each is the byte of the cause equations, also where no signal has such inputs. Some are worked out: of
 -- nothing, of each input alone, of dTIM, dDEG and dBDI where dTIM acts and where it does not, of SSF with dOCI, dOCI with dTIM, dOCI with dLCK, dAIS with dOCI, and of all.

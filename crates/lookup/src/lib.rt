@@ -2,11 +2,12 @@
 use causes::PathCauses;
 use causes::Report;
 use causes::Standing;
+use signal::Raised;
 ghost use mathlib.Core.Path.{_≡_};
 ghost use Prim.Native.Nat.{_≤_};
 ghost use Rattle.answer.specs.Bits.{flag};
 ghost use Rattle.causes.specs.Causes.{causesBy};
-ghost use Rattle.lookup.specs.Lookup.{indexOf, byteOf, entry, causesIn, reportByTable};
+ghost use Rattle.lookup.specs.Lookup.{indexOf, byteOf, entry, causesIn, reportRaised};
 
 // The cause bytes, cOCI in the lowest bit, then cLCK, cTIM, cDEG, cBDI, cSSF: a row for each choice of dTIM, TIMActDis, dDEG and dBDI, dTIM the lowest bit, and
 // in a row one byte for each of SSF, dAIS, dOCI and dLCK.
@@ -120,13 +121,11 @@ fn causes_in(byte: u8) -> PathCauses
     }
 }
 
-// The report of what stands, the path's causes by the table.
-pub fn report_by_table(d: Standing, sm: u8, pm: u8) -> Report
-    ensures { λ r. ⌜ r ≡ reportByTable d sm pm ⌝ }
+// The report of what stands, the path's causes by the table. dAIS, dOCI and dLCK are handed in as yes or no, so that no case of the signal is looked at on the way to the entry.
+pub fn report_by_table(raised: Raised, d: Standing, sm: u8, pm: u8) -> Report
+    ensures { λ r. ⌜ r ≡ reportRaised raised d sm pm ⌝ }
 {
     let p = d.path;
-    let signal = p.signal;
-    let raised = signal::raised_by(signal);
     let ssf = causes::path_ssf(d);
     let byte = causes_by_table(
         ssf,

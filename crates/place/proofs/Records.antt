@@ -19,11 +19,11 @@ use Rattle.signal.specs.declared.Signal.{Signal}
 use Rattle.signal.specs.declared.Raised.{Raised}
 use Rattle.signal.specs.Signal.{standsFor, raisedOf}
 use Rattle.causes.specs.declared.SectionStands.{SectionStands}
-use Rattle.causes.specs.declared.PathStands.{PathStands}
+use Rattle.place.specs.declared.PathFrame.{PathFrame}
 use Rattle.place.specs.declared.Filtered.{Filtered}
 use Rattle.cycle.specs.declared.Cycle.{Cycle}
 use Rattle.cycle.specs.Cycle.{cycleIn, cycleOf, tracesOf, recordParts, layerStep, timAfter}
-use Rattle.place.specs.Place.{sectionFilters, sectionNumbers, sectionStood, sectionRecord, pathStat, pathForgets, pathBdiAt, pathNumbers, pathStood, pathRecord}
+use Rattle.place.specs.Place.{sectionFilters, sectionNumbers, sectionStood, sectionRecord, pathStat, pathForgets, pathBdiAt, pathNumbers, pathFrame, pathStood, pathRecord}
 use Rattle.cycle.proofs.Parts.{lent, back}
 use Rattle.cycle.proofs.Cycles.{cycle-long}
 
@@ -55,17 +55,17 @@ module _ (b0 b1 x : List ℕ) (d : Filtered) (tim ssf : Bool) (m : Multi) (f : F
 module _ (b0 b1 x : List ℕ) (bdi : Filter) (t : Stat) (s : Signal) (q : Raised) (tim ssf : Bool) (run : ℕ) (m : Multi) (f : Field) (pm : ℕ) (h : length b0 ≡ 288) where
   pub path-is : run ≡ getD b0 42 0
       → t ≡ statOf (record { value = getD b0 41 0; run = run; known = eqb (getD b0 43 0) 1; accepted = getD b0 44 0 }) ssf (f .stat)
-      → s ≡ standsFor t → q ≡ raisedOf s → tim ≡ timAfter b0 (ssf || q .ais) m (f .tti)
+      → s ≡ standsFor t → q ≡ raisedOf (standsFor t) → tim ≡ timAfter b0 (ssf || q .ais) m (f .tti)
       → b1 ≡ joined (recordParts b0 (cycleOf (layerStep b0 (ssf || q .ais) m (f .tti))) (bytesIn 29 35 b0) (tracesOf (layerStep b0 (ssf || q .ais) m (f .tti))))
       → bdi ≡ pathBdiAt (bytesIn 2 0 (take 29 (drop 35 b1))) (ssf || q .ais) f
       → x ≡ pathNumbers (take 29 (drop 35 b1)) t (ssf || q .ais) (ssf || q .ais || q .oci || q .lck) tim f pm
-      → (_≡_ {A = PathStands} (record { signal = s; tim = tim; disabled = eqb (getD b0 6 0) 1; bdi = bdi .on; deg = eqb (getD b0 7 0) 1 }) (pathStood b0 ssf m f))
+      → (_≡_ {A = PathFrame} (record { stands = record { signal = s; tim = tim; disabled = eqb (getD b0 6 0) 1; bdi = bdi .on; deg = eqb (getD b0 7 0) 1 }; raised = q }) (pathFrame (pathStood b0 ssf m f)))
       × (take 35 b1 ++ (x ++ drop 29 (drop 35 b1)) ≡ pathRecord b0 ssf m f pm)
   unfolding pathRecord
   path-is er es eg eq et e ed ex =
       let g : t ≡ pathStat b0 ssf f = rw er at es in
       let gs : s ≡ standsFor (pathStat b0 ssf f) = rw g at eg in
-      let gq : q ≡ raisedOf (standsFor (pathStat b0 ssf f)) = rw gs at eq in
+      let gq : q ≡ raisedOf (standsFor (pathStat b0 ssf f)) = rw g at eq in
       let forget : Bool = pathForgets ssf (pathStat b0 ssf f) in
       let l : Layer = layerStep b0 forget m (f .tti) in
       let gt : tim ≡ timAfter b0 forget m (f .tti) = rw gq at et in
@@ -73,4 +73,4 @@ module _ (b0 b1 x : List ℕ) (bdi : Filter) (t : Stat) (s : Signal) (q : Raised
       let n = numbers-is b0 b1 x (cycleOf l) (tracesOf l) h (cycle-long (bytesIn 192 64 b0) (cycleIn (bytesIn 3 32 b0)) forget m (f .tti)) ge in
       let gd = rw (n .0, gq) at ed in
       let gx = rw (n .0, gq, gt, g) at ex in
-      (rw (gd, gs, gt), n .1 ∙ rw gx)
+      (rw (gd, gs, gt, gq), n .1 ∙ rw gx)

@@ -22,9 +22,9 @@ use Rattle.second.specs.declared.Blocks.{Blocks}
 use Rattle.second.specs.Second.{discardOf}
 use Rattle.causes.specs.declared.Line.{Line}
 use Rattle.causes.specs.declared.SectionStands.{SectionStands}
-use Rattle.causes.specs.declared.PathStands.{PathStands}
 use Rattle.frame.specs.Layers.{lineOf}
 use Rattle.place.specs.declared.LineFrame.{LineFrame}
+use Rattle.place.specs.declared.PathFrame.{PathFrame}
 use Rattle.place.specs.Place.{sectionRecord, sectionNumbers, pathRecord, pathNumbers, talliedIn, openedIn}
 use Rattle.place.proofs.section_at.Kinds as section-at-kinds
 use Rattle.place.proofs.section_at.Reads as section-at-reads
@@ -69,7 +69,7 @@ counted-under-ssf κs a x s b ssf f sm end e =
     omega arith
 
 -- path_at: bytes that are no record are not written
-pub path-beyond : (κs : Lfts 1) (a : Dens κs path-at-kinds.ps) (x : PathStands) (s : AtExit (endedOf 1 path-at-kinds.ps path-at-kinds.r) κs)
+pub path-beyond : (κs : Lfts 1) (a : Dens κs path-at-kinds.ps) (x : PathFrame) (s : AtExit (endedOf 1 path-at-kinds.ps path-at-kinds.r) κs)
     → now (a .0) ≡ 7 ∷ [] → now (s .0) ≡ 0 ∷ [] → path-at-reads.Post κs a x s → ⊥
 path-beyond κs a x s b end e =
     let h : _≡_ {A = List ℕ} (0 ∷ []) (7 ∷ []) = sym end ∙ rw b at (e .holds) in
@@ -77,7 +77,7 @@ path-beyond κs a x s b end e =
     omega arith
 
 -- path_at: a far-end block is not counted under dLCK
-pub counted-under-lck : (κs : Lfts 1) (a : Dens κs path-at-kinds.ps) (x : PathStands) (s : AtExit (endedOf 1 path-at-kinds.ps path-at-kinds.r) κs)
+pub counted-under-lck : (κs : Lfts 1) (a : Dens κs path-at-kinds.ps) (x : PathFrame) (s : AtExit (endedOf 1 path-at-kinds.ps path-at-kinds.r) κs)
     → now (a .0) ≡ replicate 41 0 ++ (5 ∷ 2 ∷ replicate 245 0) → a .1 .0 ≡ false → a .1 .1 .1 .0 ≡ locked → a .1 .1 .1 .1 .0 ≡ 0
     → getD (now (s .0)) 60 0 ≡ 1 → path-at-reads.Post κs a x s → ⊥
 unfolding bytesIn pathRecord pathNumbers farBlock standsFor signalOf statOf inRow upOf

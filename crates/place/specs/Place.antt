@@ -18,7 +18,7 @@ use Rattle.filter.specs.declared.Stat.{Stat}
 use Rattle.alignment.specs.Alignment.{framesOf, alignOf}
 use Rattle.alignment.specs.declared.Alignment.{Alignment}
 use Rattle.alignment.specs.declared.Multi.{Multi}
-use Rattle.signal.specs.Signal.{standsFor, isAis, isOci, isLck}
+use Rattle.signal.specs.Signal.{standsFor, isAis, isOci, isLck, raisedOf}
 use Rattle.signal.specs.declared.Signal.the-variants.{Clear}
 use Rattle.layer.specs.declared.Layer.{Layer}
 use Rattle.second.specs.declared.Blocks.{Blocks}
@@ -33,6 +33,7 @@ use Rattle.numbers.specs.Numbers.{on, headBytes, headIn, alignBytes, alignIn, f
 use Rattle.fields.specs.Fields.{filterAt, filterBytes, statAt, statBytes, flagsIn, countsIn}
 use Rattle.cycle.specs.Cycle.{cycleOf, tracesOf, recordParts, layerStep, timAfter, whole}
 use Rattle.place.specs.declared.LineFrame.{LineFrame}
+use Rattle.place.specs.declared.PathFrame.{PathFrame}
 use Rattle.place.specs.declared.Filtered.{Filtered}
 
 -- The section's other numbers: "dBDI: BDI 1 in five frames in a row; cleared by five 0"; "Section dIAE: IAE, five and five. Section dBIAE: BEI = 1011
@@ -124,8 +125,12 @@ pathRecord b ssf m f pm =
 abbrev pub noPath : PathStands
 noPath = record { signal = Clear; tim = false; disabled = false; bdi = false; deg = false }
 
-pub record PathAt (b : List ℕ) (ssf : Bool) (m : Multi) (f : Field) (pm : ℕ) (r : PathStands) (after : List ℕ) : Type 0 where
-  pub answers : r ≡ whole b (pathStood b ssf m f) noPath
+-- what stands, and the defects that its signal raises
+abbrev pub pathFrame : PathStands → PathFrame
+pathFrame d = record { stands = d; raised = raisedOf (d .signal) }
+
+pub record PathAt (b : List ℕ) (ssf : Bool) (m : Multi) (f : Field) (pm : ℕ) (r : PathFrame) (after : List ℕ) : Type 0 where
+  pub answers : r ≡ pathFrame (whole b (pathStood b ssf m f) noPath)
   pub holds : after ≡ whole b (pathRecord b ssf m f pm) b
 
 -- The line: alignment in its strip, and a frame filed under its head.

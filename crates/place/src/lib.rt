@@ -10,16 +10,23 @@ use overhead::Field;
 use second::Blocks;
 use second::Far;
 use second::Near;
+use signal::Raised;
 use signal::Signal;
 ghost use mathlib.Core.Path.{_≡_};
 ghost use lib.ListN.{length};
 ghost use Rattle.codec.specs.Over.{bytesIn};
-ghost use Rattle.place.specs.Place.{sectionFilters, filteredBytes, sectionNumbers, sectionStood, sectionRecord, SectionAt, pathBdiAt, pathNumbers, pathStood, pathRecord, PathAt, LineAt, talliedIn, CloseAt, openedIn};
+ghost use Rattle.place.specs.Place.{sectionFilters, filteredBytes, sectionNumbers, sectionStood, sectionRecord, SectionAt, pathBdiAt, pathNumbers, pathFrame, pathStood, pathRecord, PathAt, LineAt, talliedIn, CloseAt, openedIn};
 
 // What stands at the line after a frame, and its multiframe.
 pub struct LineFrame {
     pub line: Line,
     pub multi: Multi,
+}
+
+// What stands in the path after a frame, and its maintenance defects by the number of the accepted STAT.
+pub struct PathFrame {
+    pub stands: PathStands,
+    pub raised: Raised,
 }
 
 // The filters of a section after a frame.
@@ -120,9 +127,9 @@ fn path_numbers(
 }
 
 // The path's record after a frame: STAT before its trace and BDI; its front and its names are not written.
-fn path_within(b: &mut [u8], ssf: bool, m: Multi, f: Field, pm: u8) -> PathStands
+fn path_within(b: &mut [u8], ssf: bool, m: Multi, f: Field, pm: u8) -> PathFrame
     requires { ⌜ length (now b) ≡ 288 ⌝ }
-    ensures { λ r. ⌜ (r ≡ pathStood (now (b .entry)) ssf m f) × (now (b .exit) ≡ pathRecord (now (b .entry)) ssf m f pm) ⌝ }
+    ensures { λ r. ⌜ (r ≡ pathFrame (pathStood (now (b .entry)) ssf m f)) × (now (b .exit) ≡ pathRecord (now (b .entry)) ssf m f pm) ⌝ }
 {
     let disabled = b[6] == 1;
     let deg = b[7] == 1;
@@ -135,33 +142,43 @@ fn path_within(b: &mut [u8], ssf: bool, m: Multi, f: Field, pm: u8) -> PathStand
     };
     let stat = filter::stat_step(before, ssf, f.stat);
     let signal = signal::stands_for(stat);
-    let raised = signal::raised_by(signal);
+    let raised = signal::raised_in(stat);
     let forget = ssf | raised.ais;
     let stops = ssf | raised.ais | raised.oci | raised.lck;
     let tim = cycle::trace_at(b, forget, m.inmulti, m.number, f.tti);
     let bdi = path_numbers(&mut b[35..64], stat, forget, stops, tim, f, pm);
-    PathStands {
-        signal: signal,
-        tim: tim,
-        disabled: disabled,
-        bdi: bdi.on,
-        deg: deg,
+    PathFrame {
+        stands: PathStands {
+            signal: signal,
+            tim: tim,
+            disabled: disabled,
+            bdi: bdi.on,
+            deg: deg,
+        },
+        raised: raised,
     }
 }
 
 // The path in its record: what stands after a frame. Bytes that are no record are left as they are.
-pub fn path_at(b: &mut [u8], ssf: bool, m: Multi, f: Field, pm: u8) -> PathStands
+pub fn path_at(b: &mut [u8], ssf: bool, m: Multi, f: Field, pm: u8) -> PathFrame
     ensures { λ r. ⌜ PathAt (now (b .entry)) ssf m f pm r (now (b .exit)) ⌝ }
 {
     if b.len() == 288 {
         return path_within(b, ssf, m, f, pm);
     }
-    PathStands {
-        signal: Signal::Clear,
-        tim: false,
-        disabled: false,
-        bdi: false,
-        deg: false,
+    PathFrame {
+        stands: PathStands {
+            signal: Signal::Clear,
+            tim: false,
+            disabled: false,
+            bdi: false,
+            deg: false,
+        },
+        raised: Raised {
+            ais: false,
+            oci: false,
+            lck: false,
+        },
     }
 }
 

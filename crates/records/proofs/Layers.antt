@@ -33,8 +33,9 @@ use Rattle.numbers.proofs.Strips.{flag-back, StateFits}
 use Rattle.image.specs.Image.{Sizes}
 use Rattle.cycle.specs.Cycle.{cycleBytes, cycleOf, tracesOf, recordParts, layerStep, timAfter}
 use Rattle.place.specs.declared.Filtered.{Filtered}
+use Rattle.place.specs.declared.PathFrame.{PathFrame}
 use Rattle.fields.specs.Fields.{filterBytes, statBytes, raised, countsIn}
-use Rattle.place.specs.Place.{sectionFilters, filteredBytes, sectionNumbers, sectionStood, sectionRecord, SectionAt, pathStat, pathForgets, pathStops, pathBdiAt, pathNumbers, pathStood, pathRecord, PathAt}
+use Rattle.place.specs.Place.{sectionFilters, filteredBytes, sectionNumbers, sectionStood, sectionRecord, SectionAt, pathStat, pathForgets, pathStops, pathBdiAt, pathNumbers, pathFrame, pathStood, pathRecord, PathAt}
 use Rattle.records.proofs.Held.{filter-back, stat-back, raise-flag, counts-is, before-rest, others, long, front-part, others-part, names-part, quieted, step-is, tim-is, layer-is}
 
 -- the count of a block, as a number
@@ -281,8 +282,8 @@ module _ (h : Held) (z : Sizes h) (fits : StateFits (h .state)) where
         ∙ ap (λ (a : Bool). shape timPath bdi (h .front .disabled) a) (flag-back (h .front .deg .on))
         ∙ ap pathBy (sym (layer-is (layerFrom h) forget (m .inmulti) (m .number) (f .tti) (f .bdi)))
 
-    pub path-at : (pm : ℕ) (r : PathStands) (x : List ℕ) → PathAt (heldBytes h) ssf m f pm r x
-        → (r ≡ pathBy pathLayer) × (x ≡ heldBytes (nextPath pathLayer t ssf f pm))
+    pub path-at : (pm : ℕ) (r : PathFrame) (x : List ℕ) → PathAt (heldBytes h) ssf m f pm r x
+        → (r ≡ pathFrame (pathBy pathLayer)) × (x ≡ heldBytes (nextPath pathLayer t ssf f pm))
     path-at pm r x e =
         let w = eq-eqb (length (heldBytes h)) 288 (long h z) in
-        ((rw w at (e .answers)) ∙ path-stands, (rw w at (e .holds)) ∙ path-record pm)
+        ((rw w at (e .answers)) ∙ ap pathFrame path-stands, (rw w at (e .holds)) ∙ path-record pm)

@@ -9,7 +9,6 @@ use Rattle.words.specs.Words.{flat}
 use Rattle.causes.specs.Causes.{ssfOf, timActs, headOf}
 use Rattle.causes.specs.declared.Standing.{Standing}
 use Rattle.causes.specs.declared.SectionStands.{SectionStands}
-use Rattle.causes.specs.declared.PathStands.{PathStands}
 use Rattle.overhead.specs.Overhead.{overheadOf}
 use Rattle.overhead.specs.declared.Overhead.{Overhead}
 use Rattle.second.specs.declared.Blocks.{Blocks}
@@ -20,7 +19,8 @@ use Rattle.numbers.specs.Numbers.{headBytes, alignBytes}
 use Rattle.numbers.specs.Held.{heldBytes}
 use Rattle.image.specs.Image.{lineHead, countsOf, linePieces, sectionHeld, pathHeld}
 use Rattle.place.specs.declared.LineFrame.{LineFrame}
-use Rattle.place.specs.Place.{LineAt, SectionAt, PathAt, talliedIn, CloseAt, openedIn}
+use Rattle.place.specs.declared.PathFrame.{PathFrame}
+use Rattle.place.specs.Place.{LineAt, SectionAt, pathFrame, PathAt, talliedIn, CloseAt, openedIn}
 
 -- the head and alignment, the first 64 bytes of the line's record
 abbrev pub lineFront : Supervisor → List ℕ
@@ -33,9 +33,9 @@ pub record InFrame (s : Supervisor) (overhead : List ℕ) (flags sm pm : ℕ) : 
   pub section : (r : SectionStands) (x : List ℕ)
       → SectionAt (heldBytes (sectionHeld s)) (ssfOf (standsAfter s overhead flags .line)) (frameOf s overhead flags sm pm .layers .align .multi) (overheadOf overhead .section) sm r x
       → (r ≡ standsAfter s overhead flags .section) × (x ≡ heldBytes (sectionHeld (frameOf s overhead flags sm pm)))
-  pub path : (r : PathStands) (x : List ℕ) → let d : Standing = standsAfter s overhead flags in
+  pub path : (r : PathFrame) (x : List ℕ) → let d : Standing = standsAfter s overhead flags in
       PathAt (heldBytes (pathHeld s)) (ssfOf (d .line) || timActs (d .section .tim) (d .section .disabled)) (frameOf s overhead flags sm pm .layers .align .multi) (overheadOf overhead .path) pm r x
-      → (r ≡ d .path) × (x ≡ heldBytes (pathHeld (frameOf s overhead flags sm pm)))
+      → (r ≡ pathFrame (d .path)) × (x ≡ heldBytes (pathHeld (frameOf s overhead flags sm pm)))
   pub tally : talliedIn (flat (countsOf (s .second))) (headOf (standsAfter s overhead flags)) ≡ flat (countsOf (frameOf s overhead flags sm pm .second))
 
 -- a mark, part by part

@@ -12,6 +12,8 @@ use Rattle.signal.proofs.stands_for.Kinds as stands-for-kinds
 use Rattle.signal.proofs.stands_for.Reads as stands-for-reads
 use Rattle.signal.proofs.raised_by.Kinds as raised-by-kinds
 use Rattle.signal.proofs.raised_by.Reads as raised-by-reads
+use Rattle.signal.proofs.raised_in.Kinds as raised-in-kinds
+use Rattle.signal.proofs.raised_in.Reads as raised-in-reads
 
 -- stands_for: no signal stands before a STAT is accepted, whatever was received
 pub fresh-ais : (κs : Lfts 0) (t : Stat) (s : AtExit (endedOf 0 stands-for-kinds.ps stands-for-kinds.r) κs)
@@ -35,3 +37,9 @@ four-lck κs t s k v e =
 pub lck-raises-nothing : (κs : Lfts 0) (x : Raised) (s : AtExit (endedOf 0 raised-by-kinds.ps raised-by-kinds.r) κs)
     → x .lck ≡ false → raised-by-reads.Post κs (Lck, tt) x s → ⊥
 lck-raises-nothing κs x s l e = false≢true (sym l ∙ ap (λ (r : Raised). r .lck) e)
+
+-- raised_in: nothing is raised before a STAT is accepted, whatever number is kept
+pub unknown-raises : (κs : Lfts 0) (t : Stat) (x : Raised) (s : AtExit (endedOf 0 raised-in-kinds.ps raised-in-kinds.r) κs)
+    → t .known ≡ false → x .ais ≡ true → raised-in-reads.Post κs (t, tt) x s → ⊥
+unfolding standsFor
+unknown-raises κs t x s k on e = true≢false (sym on ∙ ap (λ (r : Raised). r .ais) (rw k at e))

@@ -54,7 +54,7 @@ fn is_of(s: Signal, code: u8) -> bool
     }
 }
 
-// The defects that a signal raises: one at most. Each is a test of its own, so that what goes by all three need not branch.
+// The defects that a signal raises: one at most.
 pub fn raised_by(s: Signal) -> Raised
     ensures { λ r. ⌜ r ≡ raisedOf s ⌝ }
 {
@@ -65,5 +65,16 @@ pub fn raised_by(s: Signal) -> Raised
         ais: ais,
         oci: oci,
         lck: lck,
+    }
+}
+
+// The defects that stand by a STAT, none until one is accepted: the same by its number, with no case of the signal, so that a lookup by the three has no branch.
+pub fn raised_in(s: Stat) -> Raised
+    ensures { λ r. ⌜ r ≡ raisedOf (standsFor s) ⌝ }
+{
+    Raised {
+        ais: s.known & (s.accepted == 7),
+        oci: s.known & (s.accepted == 6),
+        lck: s.known & (s.accepted == 5),
     }
 }

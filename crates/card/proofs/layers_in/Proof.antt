@@ -63,8 +63,8 @@ same-length c = search needs
 
 returns : tie.Need-returns
 returns c =
-    let a = c .before .before .before .before .before .before .before .before .before .before .before .before .before .before .before .before .before .before .before .before .before .before in
-    layers-are (now (a .args .sup)) (a .pre .1 .0) (now (a .args .overhead)) (a .args .flags) (a .args .sm) (a .args .pm) (a .pre .1 .1) _ _ _ _ _ _ _ _ _ (c .before .before .before .before .before .before .before .before .before .before .before .before .before .before .before .before .before .before .overhead-of .ensures) (c .before .before .before .before .before .before .before .before .before .before .before .before .before .before .line-at .ensures) (c .before .before .before .before .before .before .before .before .before .ssf-of .ensures) (c .before .before .before .before .before .before .before .section-at .ensures) (c .before .before .before .before .tim-acts .ensures) (c .before .before .path-at .ensures)
+    let a = c .before .before .before .before .before .before .before .before .before .before .before .before .before .before .before .before .before .before .before .before .before .before .before .before in
+    layers-are (now (a .args .sup)) (a .pre .1 .0) (now (a .args .overhead)) (a .args .flags) (a .args .sm) (a .args .pm) (a .pre .1 .1) _ _ _ _ _ _ _ _ _ (c .before .before .before .before .before .before .before .before .before .before .before .before .before .before .before .before .before .before .before .before .overhead-of .ensures) (c .before .before .before .before .before .before .before .before .before .before .before .before .before .before .before .before .line-at .ensures) (c .before .before .before .before .before .before .before .before .before .before .before .ssf-of .ensures) (c .before .before .before .before .before .before .before .before .before .section-at .ensures) (c .before .before .before .before .before .before .tim-acts .ensures) (c .before .before .before .before .path-at .ensures)
 
 pub layers-in-spec : {M : Type 1} → statement M
 layers-in-spec =

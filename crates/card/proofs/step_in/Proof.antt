@@ -27,8 +27,8 @@ same-length c = search needs
 
 returns : tie.Need-returns
 returns c =
-    let a = c .before .before .before .before .before .before .before .before .before .before .before .before .before in
-    let f = c .before .before .before .before .before .before .before .before .before .layers-in .ensures in
+    let a = c .before .before .before .before .before .before .before .before .before .before .before .before .before .before in
+    let f = c .before .before .before .before .before .before .before .before .before .before .layers-in .ensures in
     filed-is (now (a .args .sup)) (a .pre .1 .0) (now (a .args .overhead)) (a .args .flags) (a .args .sm) (a .args .pm) _ _ _ _ (f .0) (f .1) (c .before .before .before .before .report-by-table .ensures) (c .before .before .tally-at .ensures)
 
 pub step-in-spec : {M : Type 1} → statement M

@@ -1,10 +1,7 @@
-use Rattle.lookup.specs.Lookup.{reportByTable}
+use Rattle.lookup.specs.Lookup.{reportRaised}
 use borrow.Author.Needs.{needs}
 use Rattle.lookup.proofs.report_by_table.Statement.{statement}
 use Rattle.lookup.proofs.report_by_table.Tie as tie
-
-raised-by-requires : tie.Need-raised-by-requires
-raised-by-requires c κs = search needs
 
 path-ssf-requires : tie.Need-path-ssf-requires
 path-ssf-requires c κs = search needs
@@ -19,14 +16,13 @@ report-with-requires : tie.Need-report-with-requires
 report-with-requires c κs = search needs
 
 returns : tie.Need-returns
-unfolding reportByTable
-returns c = simp (c .before .before .before .before .raised-by .ensures, c .before .before .before .path-ssf .ensures, c .before .before .causes-by-table .ensures, c .before .causes-in .ensures, c .report-with .ensures)
+unfolding reportRaised
+returns c = simp (c .before .before .before .path-ssf .ensures, c .before .before .causes-by-table .ensures, c .before .causes-in .ensures, c .report-with .ensures)
 
 pub report-by-table-spec : {M : Type 1} → statement M
 report-by-table-spec =
     tie.close
     (tie.spec
-    raised-by-requires
     path-ssf-requires
     causes-by-table-requires
     causes-in-requires

@@ -32,8 +32,8 @@ stat-step-requires c κs = search needs
 stands-for-requires : tie.Need-stands-for-requires
 stands-for-requires c κs = search needs
 
-raised-by-requires : tie.Need-raised-by-requires
-raised-by-requires c κs = search needs
+raised-in-requires : tie.Need-raised-in-requires
+raised-in-requires c κs = search needs
 
 trace-at-requires : tie.Need-trace-at-requires
 trace-at-requires c κs = search needs
@@ -59,7 +59,7 @@ returns c =
     let t = c .before .before .before .before .before .before .trace-at .ensures in
     let w = eq-eqb _ _ (a .pre) in
     let d = c .before .before .path-numbers .ensures in
-    path-is (now (a .args .b)) _ _ _ _ _ _ _ (a .args .ssf) _ (a .args .m) (a .args .f) (a .args .pm) (a .pre) (c .before .before .before .before .before .before .before .before .before .before .before .before .before .before .before .before .before .before .wide .ensures) (c .before .before .before .before .before .before .before .before .before .before .before .before .before .before .stat-step .ensures) (c .before .before .before .before .before .before .before .before .before .before .before .before .before .stands-for .ensures) (c .before .before .before .before .before .before .before .before .before .before .before .before .raised-by .ensures) (rw w at (t .answers)) (rw w at (t .holds)) (d .0) (d .1)
+    path-is (now (a .args .b)) _ _ _ _ _ _ _ (a .args .ssf) _ (a .args .m) (a .args .f) (a .args .pm) (a .pre) (c .before .before .before .before .before .before .before .before .before .before .before .before .before .before .before .before .before .before .wide .ensures) (c .before .before .before .before .before .before .before .before .before .before .before .before .before .before .stat-step .ensures) (c .before .before .before .before .before .before .before .before .before .before .before .before .before .stands-for .ensures) (c .before .before .before .before .before .before .before .before .before .before .before .before .raised-in .ensures) (rw w at (t .answers)) (rw w at (t .holds)) (d .0) (d .1)
 
 pub path-within-spec : {M : Type 1} → statement M
 path-within-spec =
@@ -74,7 +74,7 @@ path-within-spec =
     slice-read-t26
     stat-step-requires
     stands-for-requires
-    raised-by-requires
+    raised-in-requires
     trace-at-requires
     sub-path-numbers
     part-path-numbers-start
