@@ -132,7 +132,7 @@ unfiled before after =
     (headBytes (lineHead after) ++ alignBytes (after .layers .align))
     ++ (flat (countsOf (before .second)) ++ (heldBytes (sectionHeld after) ++ (heldBytes (pathHeld after) ++ [])))
 
--- a frame in line, section and path: what stands after it or its report by the table, and the multiframe, which the levels take
+-- a frame in line, section and path: what stands after it with the path's dAIS, dOCI and dLCK, or its report by the table, and the multiframe, which the levels take
 abbrev pub layeredOf : Supervisor → List ℕ → ℕ → ℕ → ℕ → Layered
 layeredOf s overhead flags sm pm = record {
   standing = standsAfter s overhead flags;
