@@ -86,14 +86,14 @@ static void shut_down(const uint8_t *sup) {
 int main(void) {
     static uint8_t sup[OTN_SUPERVISOR_BYTES];
     static const uint8_t names[OTN_NAMES_BYTES]; /* SAPI, then DAPI; not compared in mode 0 */
-    uint64_t answer = otn_fresh(sup, sizeof sup, 1, 10, 3, 10, 3, OTN_MODE_OFF, OTN_MODE_OFF, OTN_TIM_DEFAULT, OTN_TIM_DEFAULT, names,
+    uint64_t answer = otn_fresh(sup, sizeof sup, 1, 10, 3, 10, 3, OTN_MODE_OFF, OTN_MODE_OFF, OTN_TIM_ACTS, OTN_TIM_ACTS, names,
                                 sizeof names, names, sizeof names);
     if (answer != OTN_ACCEPTED) {
         printf("provisioning refused: %u\n", otn_refusal(answer));
         return 1;
     }
     for (size_t i = 0; i < WATCHED; i++) {
-        answer = otn_level(sup, sizeof sup, levels[i], 10, 3, OTN_MODE_OFF, OTN_TIM_DEFAULT, names, sizeof names);
+        answer = otn_level(sup, sizeof sup, levels[i], 10, 3, OTN_MODE_OFF, OTN_TIM_ACTS, names, sizeof names);
         if (answer != OTN_ACCEPTED) {
             printf("provisioning of TCM%u refused: %u\n", levels[i], otn_refusal(answer));
             return 1;

@@ -72,7 +72,7 @@ enum otn_refusal {
 /* TIMActDis. */
 #define OTN_TIM_ACTS 0
 #define OTN_TIM_DISABLED 1
-#define OTN_TIM_DEFAULT 2 /* as OTN_TIM_ACTS */
+#define OTN_TIM_DEFAULT 2 /* as OTN_TIM_DISABLED */
 
 /* Heads: what a frame is filed under. */
 enum otn_head {

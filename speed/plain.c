@@ -16,8 +16,8 @@ uint64_t plain_fresh(struct plain *p, uint8_t k, uint32_t sm_thr, uint8_t sm_deg
     p->n = n[k];
     p->ceiling = ceiling[k];
     struct plain_layer *s = &p->layer[0], *t = &p->layer[1];
-    s->degthr = sm_thr, s->degm = sm_degm, s->mode = sm_mode, s->dis = sm_dis, s->acts = sm_dis != 1;
-    t->degthr = pm_thr, t->degm = pm_degm, t->mode = pm_mode, t->dis = pm_dis, t->acts = pm_dis != 1;
+    s->degthr = sm_thr, s->degm = sm_degm, s->mode = sm_mode, s->dis = sm_dis, s->acts = sm_dis == 0;
+    t->degthr = pm_thr, t->degm = pm_degm, t->mode = pm_mode, t->dis = pm_dis, t->acts = pm_dis == 0;
     memcpy(s->names, sm_names, 32);
     memcpy(t->names, pm_names, 32);
     for (int i = 0; i < 6; i++) p->level[i].layer.degthr = 1, p->level[i].layer.degm = 2;
@@ -35,7 +35,7 @@ uint64_t plain_level(struct plain *p, uint8_t level, uint32_t thr, uint8_t degm,
     if (p->frames || p->closed) return 16;
     if (level < 1 || level > 6 || p->given >> (level - 1) & 1) return 18;
     struct plain_layer *l = &p->level[level - 1].layer;
-    l->degthr = thr, l->degm = degm, l->mode = mode, l->dis = dis, l->acts = dis != 1;
+    l->degthr = thr, l->degm = degm, l->mode = mode, l->dis = dis, l->acts = dis == 0;
     memcpy(l->names, names, 32);
     p->given |= 1 << (level - 1);
     return 0;

@@ -789,7 +789,7 @@ static void levels(void) {
 
     /* 3: dTIM masks dIAE and forgets dBIAE, acting or not; the STAT stays accepted, and dBDI stands on */
     for (uint8_t dis = OTN_TIM_ACTS; dis <= OTN_TIM_DEFAULT; dis++) {
-        const int acts = dis == OTN_TIM_DISABLED ? 999 : 194;
+        const int acts = dis == OTN_TIM_ACTS ? 194 : 999;
         memset(names, 1, sizeof names);
         check(plain(1) == 0 && level(3, 1, 2, OTN_MODE_SAPI, dis, 32) == 0, "fresh, level 3");
         memset(overhead, 0, sizeof overhead);
@@ -806,6 +806,16 @@ static void levels(void) {
         check(OTN_TCM_DTIM(report(3)) && otn_refusal(counted(0, 0, 0, ones)) == 0, "dTIM after the mark");
         closes((const uint32_t[44]){2, 1, 1, [28] = 1, 0, 1, 1}, "dTIM, its second");
         memset(names, 0, sizeof names);
+    }
+
+    /* TIMActDis 2 leaves the bytes that 1 leaves, in section, path and level */
+    for (uint8_t i = 0; i < 27; i++) {
+        static uint8_t told[OTN_SUPERVISOR_BYTES];
+        const uint8_t x = i % 3, y = i / 3 % 3, z = i / 9;
+        check(fresh(ALL, 1, 1, 2, 1, 2, 1, 1, x, y, 32, 32) == 0 && level(4, 1, 2, 1, z, 32) == 0, "TIMActDis 0 to 2");
+        memcpy(told, sup, sizeof told);
+        check(fresh(ALL, 1, 1, 2, 1, 2, 1, 1, x != 0, y != 0, 32, 32) == 0 && level(4, 1, 2, 1, z != 0, 32) == 0, "TIMActDis 0 and 1");
+        check(memcmp(told, sup, sizeof told) == 0, "TIMActDis 2 is 1");
     }
 
     /* 4: the section's dTIM, where it acts, is the level's SSF in its own frame */

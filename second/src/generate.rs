@@ -71,6 +71,21 @@ pub(crate) fn names(rng: &mut Random) -> [u8; 32] {
     names
 }
 
+/// A TIMActDis byte that acts or that disables. What is drawn as a third choice was 2, while 2 acted, and is an explicit 0 since K5, so that a trace by its seed prints
+/// what it printed.
+pub(crate) fn act_dis(rng: &mut Random) -> u8 {
+    [0, 1, 0][rng.below(3) as usize]
+}
+
+/// The same, with 2 for some of the 1, by the last byte of the names.
+pub(crate) fn default_for_some(dis: u8, names: &[u8; 32]) -> u8 {
+    if dis == 1 && names[31] % 2 == 1 {
+        2
+    } else {
+        dis
+    }
+}
+
 pub(crate) fn provisioning(rng: &mut Random, k: u8) -> Provisioning {
     let ceiling = [20_420, 82_025, 329_492][k as usize - 1];
     let thr = |rng: &mut Random| match rng.below(8) {
@@ -79,14 +94,16 @@ pub(crate) fn provisioning(rng: &mut Random, k: u8) -> Provisioning {
         2..=4 => rng.within(1, 40) as u32,
         _ => 1,
     };
-    Provisioning {
+    let mut p = Provisioning {
         k,
         degthr: [thr(rng), thr(rng)],
         degm: [rng.pick(&[2, 2, 2, 3, 4, 7, 10]), rng.pick(&[2, 2, 2, 3, 4, 7, 10])],
         mode: [rng.below(4) as u8, rng.below(4) as u8],
-        dis: [rng.below(3) as u8, rng.below(3) as u8],
+        dis: [act_dis(rng), act_dis(rng)],
         names: [names(rng), names(rng)],
-    }
+    };
+    p.dis = [SECTION, PATH].map(|layer| default_for_some(p.dis[layer], &p.names[layer]));
+    p
 }
 
 /// A trace that a layer expects, and some that differ from it in one byte.

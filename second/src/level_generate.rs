@@ -2,7 +2,9 @@
 //! frame, each level has one of its conditions begin where another clears. Then some traces are damaged.
 
 use crate::frame::{Sent, FAS};
-use crate::generate::{names, provisioning, traces, wandering_counts, with_marks, Generated, Item, Tti, Wave};
+use crate::generate::{
+    act_dis, default_for_some, names, provisioning, traces, wandering_counts, with_marks, Generated, Item, Tti, Wave,
+};
 use crate::level_cover::{self, AIS, BDI, BIAE, CONDITIONS, DEG, IAE, LCK, LTC, OCI, SSF, TIM};
 use crate::provisioning::{ceiling, LevelProvisioning, Provisioning, SECTION};
 use crate::random::Random;
@@ -57,7 +59,7 @@ fn some_levels(rng: &mut Random, k: u8) -> Levels {
 
 fn level_provisioning(rng: &mut Random, k: u8) -> LevelProvisioning {
     let ceiling = ceiling(k).expect("k is 1 to 3");
-    LevelProvisioning {
+    let mut p = LevelProvisioning {
         degthr: match rng.below(8) {
             0 => ceiling,
             1 => rng.within(1, u64::from(ceiling)) as u32,
@@ -66,9 +68,11 @@ fn level_provisioning(rng: &mut Random, k: u8) -> LevelProvisioning {
         },
         degm: rng.pick(&[2, 2, 2, 3, 4, 7, 10]),
         mode: rng.below(4) as u8,
-        dis: rng.below(3) as u8,
+        dis: act_dis(rng),
         names: names(rng),
-    }
+    };
+    p.dis = default_for_some(p.dis, &p.names);
+    p
 }
 
 fn wander(rng: &mut Random) -> Generated {
@@ -230,7 +234,8 @@ fn chosen(number: u64, levels: &Levels) -> Vec<(u8, usize, usize)> {
 fn blocks(rng: &mut Random, number: u64) -> Generated {
     let k = rng.pick(&[1, 1, 1, 2, 3]);
     let mut p: Provisioning = provisioning(rng, k);
-    (p.mode[SECTION], p.dis[SECTION]) = (1, rng.pick(&[0, 2]));
+    // An explicit 0, drawn as it was while it was 0 or 2.
+    (p.mode[SECTION], p.dis[SECTION]) = (1, rng.pick(&[0, 0]));
     let mut levels = some_levels(rng, k);
     for (_, l) in &mut levels {
         (l.mode, l.degthr, l.degm) = (rng.within(1, 3) as u8, rng.within(1, 5) as u32, 2);

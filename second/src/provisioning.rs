@@ -19,9 +19,9 @@ fn refusal(ceiling: u32, degthr: u32, degm: u8, mode: u8, dis: u8, names: &[u8])
     met.iter().position(|met| *met).map(|i| i as u8 + 6)
 }
 
-/// Whether a trace mismatch acts under this TIMActDis byte (2 is the default, and the default is 0: it acts).
+/// Whether a trace mismatch acts under this TIMActDis byte (2 is the default, which is disabled: "Byte 2 (default) in TIMActDis shall mean disabled").
 fn acts(dis: u8) -> bool {
-    dis != 1
+    dis == 0
 }
 
 /// Whether an accepted trace differs from the names in the field that the mode compares.

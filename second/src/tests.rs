@@ -517,7 +517,7 @@ fn reading_14_15_cycles() {
 
 #[test]
 fn reading_16_section_before_path() {
-    let mut r = with_trace(1, 2);
+    let mut r = with_trace(1, 0);
     r.good(3);
     r.until(63, |_| {});
     accept(&mut r, [1, 0]);
@@ -708,7 +708,7 @@ fn directed_cases() {
         assert_eq!(list(&case.bytes), case.listing, "{path:?}");
         count += 1;
     }
-    assert_eq!(count, 125);
+    assert_eq!(count, 129);
 }
 
 #[test]

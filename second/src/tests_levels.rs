@@ -218,7 +218,7 @@ impl Counters {
             true => self.biae = (false, 0),
             false => filter(&mut self.biae, r.bei == 11, 3),
         }
-        let acting = tim && p.dis != 1;
+        let acting = tim && p.dis == 0;
         let s = Standing { ssf, stat: self.stat, dtim: tim, acting, dbdi: self.bdi.0, dbiae: self.biae.0, ddeg: self.deg.0 };
         let failed = ssf || matches!(self.stat, Some(0 | 5 | 6 | 7));
         self.near += u32::from(r.violations > 0 && !failed);

@@ -73,7 +73,7 @@ fn examples_have_their_listings() {
             met += 1;
         }
     }
-    assert_eq!(met, 8);
+    assert_eq!(met, 9);
 }
 
 #[test]

@@ -368,7 +368,7 @@ fn mistakes_tell_the_line_and_what_was_expected() {
 #[test]
 fn an_explanation_has_the_picture_of_its_listing() {
     let note = "With the figures of a column: the frames in which a fault cause begins (+) or ends (-).";
-    for name in ["blocks-while-failed", "far-end", "minute", "one-cut-once", "overlap", "swapped-fibres"] {
+    for name in ["blocks-while-failed", "far-end", "minute", "mistyped-names", "one-cut-once", "overlap", "swapped-fibres"] {
         let explained = drawn(&example(&format!("{name}.explained")));
         assert!(explained.contains(note), "{name}");
         // The note makes the page 17 pixels higher.

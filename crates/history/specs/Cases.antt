@@ -50,7 +50,7 @@ pub record Row : Type 0 where
   pub acts : List Event
   pub shows : Seen → Bool
 
-abbrev row : Settings → List Event → (Seen → Bool) → Row
+abbrev pub row : Settings → List Event → (Seen → Bool) → Row
 row p acts q = record { settings = p; acts = acts; shows = q }
 
 -- k = 1; DEGThr 1 and DEGM 2; a trace mode, TIMActDis, and names of one byte repeated, for the section; mode 0 for the path
@@ -89,7 +89,7 @@ abbrev c3 : List Event
 c3 = good 3 0 0 0
 
 -- n frames with good framing, MFAS counting up from m, a section TTI byte by that number, and a path status byte
-abbrev traced : ℕ → ℕ → (ℕ → ℕ) → ℕ → List Event
+abbrev pub traced : ℕ → ℕ → (ℕ → ℕ) → ℕ → List Event
 traced zero m tti path = []
 traced (suc n) m tti path = sent (overhead fas (m % 256) (tti (m % 64)) 0 0 path) 0 0 0 ∷ traced n (m + 1) tti path
 
@@ -105,7 +105,7 @@ up64 (suc k) n = n ∷ up64 k (n + 1)
 abbrev itself : ℕ → ℕ
 itself n = n
 
-abbrev zeroth : ℕ → ℕ
+abbrev pub zeroth : ℕ → ℕ
 zeroth n = 0
 
 -- what a row looks at
@@ -121,7 +121,7 @@ lof x = x .report .standing .line .lof
 abbrev lom : Seen → Bool
 lom x = x .report .standing .line .lom
 
-abbrev head : ℕ → Seen → Bool
+abbrev pub head : ℕ → Seen → Bool
 head n x = eqb (x .report .head) n
 
 -- dBDI of the section and of the path; far-end blocks of the section and of the path

@@ -1,6 +1,6 @@
 -- Answers that tempting readings give, shut out by the contracts of this crate. Assumes nothing.
 use Prim.Native.Nat.{ℕ}
-use mathlib.Core.Path.{_≡_, sym}
+use mathlib.Core.Path.{_≡_}
 use mathlib.Core.Bool.{true, false, true≢false}
 use native.Mathlib.Omega.{arith}
 use contract.Lifetimes.{Lfts}
@@ -25,10 +25,10 @@ pub six-before-five : (κs : Lfts 2) (a : Dens κs settings-refusal-kinds.ps) (s
 unfolding settingsRefusal
 six-before-five κs a s k e = let h : _≡_ {A = ℕ} 6 5 = rw k at e in omega arith
 
--- TIMActDis 2 is the default, and the default acts
-pub two-disables : (κs : Lfts 0) (a : Dens κs options-of-kinds.ps) (x : Options) (s : AtExit (endedOf 0 options-of-kinds.ps options-of-kinds.r) κs)
-    → a .0 .dis ≡ 2 → x .disabled ≡ true → options-of-reads.Post κs a x s → ⊥
-two-disables κs a x s two on e = let h : false ≡ true = rw (e, two) at on in true≢false (sym h)
+-- TIMActDis 2 is the default, and the default is disabled
+pub two-acts : (κs : Lfts 0) (a : Dens κs options-of-kinds.ps) (x : Options) (s : AtExit (endedOf 0 options-of-kinds.ps options-of-kinds.r) κs)
+    → a .0 .dis ≡ 2 → x .disabled ≡ false → options-of-reads.Post κs a x s → ⊥
+two-acts κs a x s two off e = true≢false (rw (e, two) at off)
 
 -- TIMActDis 1 disables
 pub one-acts : (κs : Lfts 0) (a : Dens κs options-of-kinds.ps) (x : Options) (s : AtExit (endedOf 0 options-of-kinds.ps options-of-kinds.r) κs)

@@ -33,9 +33,9 @@ settingsChecks k section path snames pnames =
 unfoldable pub settingsRefusal : ℕ → Request → Request → List ℕ → List ℕ → ℕ
 settingsRefusal k section path snames pnames = firstOf (settingsChecks k section path snames pnames)
 
--- "0 acts, 1 disabled, 2 default; the default is 0"
+-- "0 acts, 1 disabled, 2 default"; "Byte 2 (default) in TIMActDis shall mean disabled" (document 02, K5)
 abbrev pub disabledOf : ℕ → Bool
-disabledOf dis = eqb dis 1
+disabledOf dis = leb 1 dis
 
 -- what is kept of an accepted request
 abbrev pub optionsOf : Request → List ℕ → Options

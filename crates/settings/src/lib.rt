@@ -68,11 +68,11 @@ pub fn settings_refusal(k: u8, section: Request, path: Request, snames: &[u8], p
     checked(5, (1 <= k) & (k <= 3), six)
 }
 
-// Whether a TIMActDis byte disables: 0 acts, 1 disabled, 2 default, which is 0.
+// Whether a TIMActDis byte disables: 0 acts, 1 disabled, 2 default, which is disabled.
 fn disabled_of(dis: u8) -> bool
     ensures { λ r. ⌜ r ≡ disabledOf dis ⌝ }
 {
-    dis == 1
+    1 <= dis
 }
 
 fn wide(x: u8) -> u32

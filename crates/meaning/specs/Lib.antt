@@ -1,0 +1,3 @@
+pub mod Before
+pub mod Same
+pub mod Differs
