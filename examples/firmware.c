@@ -1,7 +1,7 @@
 /* A small firmware loop: one supervisor for one line and two of its tandem levels, a frame at a time, a mark each second, and what stands
-   in words.
+   in words; beside it the open quarter-hour.
    In a card, `next_frame` is the framer chip, and a second is 1 s of its frames; here a line is made up, with 100 frames a second. A
-   second is told one mark late, and the last one at the end.
+   second is told one mark late, and the last one at the end; then what there is of the quarter-hour.
 
    cc -o firmware examples/firmware.c target/staticlib/libcard.a */
 #include "../include/otn.h"
@@ -69,18 +69,49 @@ static void say_second(const uint8_t *record) {
     printf("\n");
 }
 
+/* The open quarter-hour: a summary that each reported second is joined to. Zeros are the empty one. */
+static uint8_t quarter[OTN_SUMMARY_BYTES];
+
+static unsigned long long of_quarter(unsigned figure) { return otn_summary_figure(quarter, figure); }
+
+static void end_quarter(void) {
+    printf("quarter-hour %llu: %llu seconds, %llu frames, %llu clear; defect seconds: section %llu near, path %llu near\n",
+           (unsigned long long)otn_quarter(of_quarter(OTN_SUMMARY_FIRST)), of_quarter(OTN_SUMMARY_LENGTH), of_quarter(OTN_SUMMARY_FRAMES),
+           of_quarter(OTN_SUMMARY_UNDER + OTN_HEAD_CLEAR), of_quarter(OTN_SUMMARY_SECTION_NEAR_DS), of_quarter(OTN_SUMMARY_PATH_NEAR_DS));
+    memset(quarter, 0, sizeof quarter);
+}
+
+static void keep_second(const uint8_t *record) {
+    uint8_t second[OTN_SUMMARY_BYTES], both[OTN_SUMMARY_BYTES];
+    uint64_t answer = otn_summary(record, OTN_RECORD_BYTES, second, sizeof second);
+    if (answer == OTN_ACCEPTED) answer = otn_join(quarter, sizeof quarter, second, sizeof second, both, sizeof both);
+    if (answer != OTN_ACCEPTED) {
+        printf("joining refused: %u\n", otn_refusal(answer));
+        return;
+    }
+    memcpy(quarter, both, sizeof quarter);
+    if (otn_figure(record, OTN_SECOND) % 900 == 0) end_quarter();
+}
+
 /* The clock's tick: the record is that of the second before the one that is closed. At the first tick there is none. */
 static void close_second(uint8_t *sup) {
     uint8_t record[OTN_RECORD_BYTES];
     uint64_t answer = otn_mark(sup, OTN_SUPERVISOR_BYTES, record, sizeof record);
     if (otn_refusal(answer) != OTN_ACCEPTED) printf("mark refused: %u\n", otn_refusal(answer));
-    if (otn_reported(answer)) say_second(record);
+    if (otn_reported(answer)) {
+        say_second(record);
+        keep_second(record);
+    }
 }
 
-/* Before the supervisor is given up: the last second that was closed is not reported yet. */
+/* Before the supervisor is given up: the last second that was closed is not reported yet, and the quarter-hour is not whole. */
 static void shut_down(const uint8_t *sup) {
     uint8_t record[OTN_RECORD_BYTES];
-    if (otn_reported(otn_pending(sup, OTN_SUPERVISOR_BYTES, record, sizeof record))) say_second(record);
+    if (otn_reported(otn_pending(sup, OTN_SUPERVISOR_BYTES, record, sizeof record))) {
+        say_second(record);
+        keep_second(record);
+    }
+    if (of_quarter(OTN_SUMMARY_LENGTH) > 0) end_quarter();
 }
 
 int main(void) {

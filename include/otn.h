@@ -1,9 +1,10 @@
 /* otn.h: a supervisor for the receiving end of one OTUk, the ODUk path in it and its tandem levels TCM1 to TCM6, k = 1, 2 or 3.
 
-   Nine calls on numbers and bytes. The supervisor is a buffer of OTN_SUPERVISOR_BYTES that the caller owns: otn_fresh fills it,
+   Eleven calls on numbers and bytes. The supervisor is a buffer of OTN_SUPERVISOR_BYTES that the caller owns: otn_fresh fills it,
    otn_level provisions a tandem level, otn_step or otn_step_levels takes one frame's overhead, otn_mark closes a second and reports
    the one before it. otn_pending, otn_trace, otn_level_report and otn_level_trace read it: the second that is closed and not reported
-   yet, an accepted trace, and what stands of a level. Link with libcard.a.
+   yet, an accepted trace, and what stands of a level. Beside the supervisor, otn_summary makes a summary of a reported second, and
+   otn_join joins summaries to those of quarter-hours and days. Link with libcard.a.
 
    Every call takes any bytes and any numbers, and ends. Its answer's low byte is the refusal, 0 where the call is accepted
    (otn_refusal); a refused call changes no byte that it was lent and answers nothing but that number. No check is owed beforehand
@@ -29,12 +30,13 @@ extern "C" {
 #define OTN_SUPERVISOR_BYTES 2620
 #define OTN_OVERHEAD_BYTES 64
 #define OTN_RECORD_BYTES 176
+#define OTN_SUMMARY_BYTES 168
 #define OTN_TRACE_BYTES 64
 #define OTN_NAMES_BYTES 32
 #define OTN_STACK_BYTES 1024
 #define OTN_LEVELS 6
 
-/* Refusals, in the order in which they are checked: OTN_BAD_SUPERVISOR first, then by number. */
+/* Refusals, in the order in which they are checked: OTN_BAD_SUPERVISOR or OTN_BAD_SUMMARY first, then by number. */
 enum otn_refusal {
     OTN_ACCEPTED = 0,
     OTN_BAD_OVERHEAD = 1,     /* overhead not 64 bytes */
@@ -52,7 +54,10 @@ enum otn_refusal {
     OTN_NO_TRACE = 13,        /* no accepted trace */
     OTN_LATE = 16,            /* a level provisioned after a frame or a mark */
     OTN_BAD_SUPERVISOR = 17,  /* the supervisor's length, or a number in it beyond its range (docs/SUPERVISOR.md) */
-    OTN_BAD_LEVEL = 18        /* level not 1 to 6, or given twice */
+    OTN_BAD_LEVEL = 18,       /* level not 1 to 6, or given twice */
+    OTN_TOO_LONG = 20,        /* two summaries that have more than 86,400 seconds together */
+    OTN_NOT_NEXT = 21,        /* a later summary that does not begin with the second after the earlier one's last */
+    OTN_BAD_SUMMARY = 26      /* a summary's length, or numbers that no summary has; a record that is none of one second */
 };
 
 /* Flags of a frame; both may stand. */
@@ -138,6 +143,30 @@ uint64_t otn_level_report(const uint8_t *sup, size_t sup_len, uint8_t level);
 /* The accepted trace of a level, 64 bytes as in otn_trace. A level that is not provisioned has none, nor has a number that is no
    level. sup is not changed. Refuses 17, then 12, 13. */
 uint64_t otn_level_trace(const uint8_t *sup, size_t sup_len, uint8_t level, uint8_t *out, size_t out_len);
+
+/* Summaries, for quarter-hours and days. A summary tells of up to 86,400 seconds in a row: the number of the first one, how many they
+   are, and their figures added up, DS as the number of seconds that have it; no tandem level's. It is 21 little-endian 64-bit words
+   (enum otn_summary_figure below) in a buffer of OTN_SUMMARY_BYTES that the caller owns; no supervisor knows of it. 168 zeros are
+   the empty summary, which has no second.
+
+   What both calls refuse as 26 is a summary with a length above 86,400, a first second of 0 though it has seconds or another one
+   though it has none, a last second above 4,294,967,295, a number of DS above the length, or frames, blocks or frames under a head
+   above 400,000 times the length. That the heads add up to the frames is not asked.
+
+   An output of another length than 168 gets the first bytes that it has room for, and bytes beyond 168 are left alone. */
+
+/* The summary of one second, from the record that otn_mark or otn_pending filled: of its first 80 bytes, and no other is looked at.
+   Refuses 26: the record has fewer bytes, or is none of a reported second: number 0, a DS above 1, or a count or head above 400,000.
+   A record that nothing was reported into is not to be handed in; ask otn_reported. */
+uint64_t otn_summary(const uint8_t *record, size_t record_len, uint8_t *out, size_t out_len);
+
+/* Two summaries joined: the earlier one's seconds and the later one's. The empty summary follows on from any, and any from it. Both
+   are only read, and may be the same bytes; out overlaps neither. Refuses 26 (one of the two has not 168 bytes, or is no summary),
+   then 20, then 21.
+
+   Quarter-hour q, from 0, is seconds 900q + 1 to 900q + 900. Keep one summary, empty at first; join each reported second to it; it is
+   whole when its last second is 900q + 900, and the next one begins with the empty summary again. A day is 96 of them, joined. */
+uint64_t otn_join(const uint8_t *earlier, size_t earlier_len, const uint8_t *later, size_t later_len, uint8_t *out, size_t out_len);
 
 /* The refusal of any answer: 0 where the call was accepted. */
 static inline unsigned otn_refusal(uint64_t answer) { return (unsigned)(answer & 0xff); }
@@ -250,6 +279,30 @@ enum otn_level_figure {
 static inline uint32_t otn_level_figure(const uint8_t *record, unsigned level, unsigned figure) {
     return otn_figure(record, 20 + 4 * (level - 1) + figure);
 }
+
+/* The figures of a summary, read from its OTN_SUMMARY_BYTES. */
+enum otn_summary_figure {
+    OTN_SUMMARY_FIRST = 0,             /* number of its first second; 0 where it is empty */
+    OTN_SUMMARY_LENGTH = 1,            /* how many seconds */
+    OTN_SUMMARY_FRAMES = 2,
+    OTN_SUMMARY_UNDER = 3,             /* OTN_SUMMARY_UNDER + head: frames under the head, 0 to 9 */
+    OTN_SUMMARY_SECTION_NEAR = 13,
+    OTN_SUMMARY_SECTION_FAR = 14,
+    OTN_SUMMARY_SECTION_NEAR_DS = 15,  /* how many seconds are near-end defect seconds; so with the others */
+    OTN_SUMMARY_SECTION_FAR_DS = 16,
+    OTN_SUMMARY_PATH_NEAR = 17,
+    OTN_SUMMARY_PATH_FAR = 18,
+    OTN_SUMMARY_PATH_NEAR_DS = 19,
+    OTN_SUMMARY_PATH_FAR_DS = 20
+};
+
+static inline uint64_t otn_summary_figure(const uint8_t *summary, unsigned figure) {
+    return (uint64_t)otn_figure(summary, 2 * figure) | (uint64_t)otn_figure(summary, 2 * figure + 1) << 32;
+}
+
+/* The quarter-hour that a second lies in, from 0; second 1 is the first. Second 0, which is no second, answers
+   20,496,382,304,121,724, a number that no second answers. */
+static inline uint64_t otn_quarter(uint64_t second) { return (second - 1) / 900; }
 
 #ifdef __cplusplus
 }

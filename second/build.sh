@@ -1,6 +1,7 @@
 # Sourced by compare, soak and mutants here and by speed/speed: builds what they run into second/target.
 #
 #   LEDGER        the program under test; without it only the plain C reader is run
+#   QUARTERS      the program that prints quarter-hours and days; without it only the plain C one is run
 #   EXPLAIN       the program that explains a trace; without it no explanation is compared
 #   CARD_LIB      the static library libcard.a; without it only the stand-in over plain.c is run
 #   CARD_INCLUDE  where its otn.h stands; by default include/ beside second/
@@ -12,6 +13,7 @@ set -euo pipefail
 second=$(cd "$(dirname "${BASH_SOURCE[0]}")" && pwd)
 speed=$(cd "$second/../speed" && pwd) # the supervisor in plain C stands there
 ledger=${LEDGER:+$(realpath "$LEDGER")}
+quarters=${QUARTERS:+$(realpath "$QUARTERS")}
 explain=${EXPLAIN:+$(realpath "$EXPLAIN")}
 card_lib=${CARD_LIB:+$(realpath "$CARD_LIB")}
 card_include=$(realpath -m "${CARD_INCLUDE:-$second/../include}")

@@ -11,10 +11,12 @@
  *   T sup  layer room(2) fill                                                         otn_trace
  *   P sup  level                                                                      otn_level_report
  *   U sup  level room(2) fill                                                         otn_level_trace
+ *   R  len(2) record  room(2) fill                                                    otn_summary
+ *   J  len(2) earlier  len(2) later  room(2) fill                                     otn_join
  *   Z                                                                                 write out what is gathered
  * sup is one byte: 0 the supervisor; 1 it less its last byte; 2 with a byte more; 3 none of it; 4 its right length, all FF bytes; 5 to 47 it,
  * with number sup - 5 of the pending second's 43, which are its last 172 bytes, one beyond its range.
- * Answer: the word (8), a byte of complaints (0: none), and for M, Q, T and U the lent buffer as it is after the call. */
+ * Answer: the word (8), a byte of complaints (0: none), and for M, Q, T, U, R and J the lent buffer as it is after the call. */
 #include "otn.h"
 #include <stdio.h>
 #include <stdlib.h>
@@ -106,6 +108,28 @@ static void take(struct lent *l)
     remember(l);
 }
 
+/* otn_summary or otn_join: no supervisor, one lent buffer or two to be read, and one to be filled. */
+static void sum(int order)
+{
+    static struct lent earlier, later, sum;
+    lend(&earlier, number(2));
+    take(&earlier);
+    lend(&later, order == 'J' ? number(2) : 0);
+    take(&later);
+    lend(&sum, number(2));
+    memset(sum.bytes, byte(), sum.len);
+    remember(&sum);
+    const uint64_t answer = order == 'J' ? otn_join(earlier.bytes, earlier.len, later.bytes, later.len, sum.bytes, sum.len)
+                                         : otn_summary(earlier.bytes, earlier.len, sum.bytes, sum.len);
+    uint8_t complaints = 0;
+    if (changed(&earlier) || changed(&later)) complaints |= INPUT_CHANGED;
+    if (answer && changed(&sum)) complaints |= BUFFER_CHANGED;
+    if (!guarded(&earlier) || !guarded(&later) || !guarded(&sum)) complaints |= GUARD_BROKEN;
+    put(&answer, 8);
+    put(&complaints, 1);
+    put(sum.bytes, sum.len);
+}
+
 int main(void)
 {
     static struct lent right, less, more, none, beyond, pending, a, b;
@@ -115,6 +139,10 @@ int main(void)
     for (int order; (order = get()) >= 0;) {
         if (order == 'Z') {
             flush();
+            continue;
+        }
+        if (order == 'R' || order == 'J') {
+            sum(order);
             continue;
         }
         const uint8_t which = byte();

@@ -10,7 +10,8 @@
  *     otn_pending bit 8 alone, any other call 0; and it leaves a supervisor that is accepted again;
  *   - what is lent to be read is not written, nor is a record where bit 8 does not stand;
  *   - the pending second's 43 numbers are the supervisor's last 172 bytes: any in its range is accepted and told by otn_pending, one beyond it
- *     is refused with 17.
+ *     is refused with 17;
+ *   - otn_summary and otn_join answer what plain arithmetic gives, refusal and bytes, as far as the output has room; a tenth as many calls more.
  * The supervisors: fresh ones stepped on, ones with some bytes changed (these go on too, if accepted), and noise of any length. */
 #define _DEFAULT_SOURCE
 #include "otn.h"
@@ -20,7 +21,7 @@
 #include <string.h>
 #include <sys/mman.h>
 
-enum { PAGE = 4096, PAGES = 8, BESIDE = 128, SUP = OTN_SUPERVISOR_BYTES, MOST = 2 * SUP + 200, PENDING = 43 };
+enum { PAGE = 4096, PAGES = 8, BESIDE = 128, SUP = OTN_SUPERVISOR_BYTES, MOST = 2 * SUP + 200, PENDING = 43, SUMMARY = OTN_SUMMARY_BYTES };
 
 static uint64_t state;
 static uint64_t next(void)
@@ -38,7 +39,7 @@ struct lent {
     int at_start;
     uint8_t copy[PAGE * PAGES];
 };
-static struct lent sup_lent, a_lent, b_lent;
+static struct lent sup_lent, a_lent, b_lent, sum_lent;
 
 static void open_lent(struct lent *l)
 {
@@ -244,12 +245,108 @@ static void pending_number(const uint8_t *sound)
         fail("otn_pending", answer, "a pending number is told otherwise");
 }
 
+/* What number i of a summary may be at most for each second: a DS, or a count or head. */
+static uint64_t most(int i) { return i == 15 || i == 16 || i == 19 || i == 20 ? 1 : 400000; }
+
+static int valid(const uint64_t s[21])
+{
+    if (s[1] > 86400 || s[0] > UINT32_MAX) return 0; /* nothing below overflows then */
+    int good = (s[0] == 0) == (s[1] == 0) && s[0] + s[1] <= (uint64_t)UINT32_MAX + 1;
+    for (int i = 2; i < 21; i++) good &= s[i] <= most(i) * s[1];
+    return good;
+}
+
+/* A summary from first on, or from anywhere where that is 0; mostly a valid one. */
+static void any_summary(uint64_t s[21], uint64_t first)
+{
+    const uint64_t length = below(8) == 0 ? 0 : below(4) == 0 ? 86400 : 1 + below(below(2) ? 86400 : 1000);
+    memset(s, 0, 21 * sizeof *s);
+    if (length) {
+        s[0] = first ? first : below(2) ? 1 + below(UINT32_MAX) : UINT32_MAX + 1ull - length;
+        s[1] = length;
+    }
+    for (int i = 2; i < 21; i++) s[i] = below(2) ? below(most(i) * length + 1) : below(2) ? most(i) * length : 0;
+    const int i = (int)below(21);
+    if (below(6) == 0) s[i] = below(2) ? next() >> below(64) : s[i] + 1;
+}
+
+/* The numbers as bytes, width of them for each, mostly of the right length. */
+static void lend_numbers(struct lent *l, const uint64_t *numbers, size_t n, unsigned width)
+{
+    uint8_t bytes[300];
+    const size_t right = n * width, len = below(8) ? right : below(3) ? right - 1 + below(3) : below(sizeof bytes);
+    for (size_t i = 0; i < sizeof bytes; i++) bytes[i] = i < right ? (uint8_t)(numbers[i / width] >> 8 * (i % width)) : (uint8_t)next();
+    lend(l, below(16) ? bytes : NULL, len);
+}
+
+/* The number at its place in what is lent. */
+static uint64_t lent_number(const struct lent *l, int at, unsigned width)
+{
+    uint64_t v = 0;
+    for (unsigned i = 0; i < width; i++) v |= (uint64_t)l->bytes[at * width + i] << 8 * i;
+    return v;
+}
+
+static uint64_t summed[27]; /* by answer */
+
+/* otn_summary of a record. */
+static unsigned summary_of_record(uint64_t sum[21])
+{
+    uint64_t figures[44];
+    figures[0] = below(8) ? 1 + below(UINT32_MAX) : 0;
+    for (int i = 1; i < 44; i++) figures[i] = below(120) ? below(most(i + 1) + 1) : below(2) ? most(i + 1) + below(2) : next();
+    lend_numbers(&a_lent, figures, 44, 4);
+    if (a_lent.len < 80) return 26;
+    for (int i = 0; i < 20; i++) sum[i ? i + 1 : 0] = lent_number(&a_lent, i, 4);
+    sum[1] = 1;
+    return valid(sum) ? 0 : 26;
+}
+
+/* otn_join of two summaries, of which the later one mostly follows on. */
+static unsigned joined_of_two(uint64_t sum[21])
+{
+    uint64_t a[21], b[21];
+    any_summary(a, 0);
+    const uint64_t next_first = a[0] + a[1];
+    any_summary(b, next_first <= UINT32_MAX && below(4) ? next_first + (below(8) ? 0 : below(3) - 1) : 0);
+    lend_numbers(&a_lent, a, 21, 8), lend_numbers(&b_lent, b, 21, 8);
+    if (a_lent.len != SUMMARY || b_lent.len != SUMMARY) return 26;
+    for (int i = 0; i < 21; i++) {
+        a[i] = lent_number(&a_lent, i, 8), b[i] = lent_number(&b_lent, i, 8);
+        sum[i] = a[i] + b[i];
+    }
+    if (a[1]) sum[0] = a[0]; /* otherwise the later one's, or 0 */
+    return !valid(a) || !valid(b) ? 26 : sum[1] > 86400 ? 20 : a[1] && b[1] && a[0] + a[1] != b[0] ? 21 : 0;
+}
+
+/* One call of the two, and what plain arithmetic gives. */
+static void sums(void)
+{
+    const int join = (int)below(3);
+    const char *name = join ? "otn_join" : "otn_summary";
+    uint64_t sum[21];
+    calls++;
+    lend(&b_lent, NULL, 0);
+    const unsigned expected = join ? joined_of_two(sum) : summary_of_record(sum);
+    uint8_t *out = lend(&sum_lent, NULL, below(2) ? SUMMARY : below(400));
+    const uint64_t answer = join ? otn_join(a_lent.bytes, a_lent.len, b_lent.bytes, b_lent.len, out, sum_lent.len)
+                                 : otn_summary(a_lent.bytes, a_lent.len, out, sum_lent.len);
+    if (answer != expected) fail(name, answer, "another answer was due");
+    for (size_t i = 0; i < sum_lent.len; i++) {
+        const uint8_t due = answer || i >= SUMMARY ? sum_lent.copy[i] : (uint8_t)(sum[i / 8] >> 8 * (i % 8));
+        if (out[i] != due) fail(name, answer, "the output holds other bytes");
+    }
+    if (!kept(&a_lent) || !kept(&b_lent)) fail(name, answer, "a lent buffer was changed");
+    if (!around(&a_lent) || !around(&b_lent) || !around(&sum_lent)) fail(name, answer, "bytes beside a lent buffer were written");
+    summed[answer]++;
+}
+
 int main(int argc, char **argv)
 {
     seed = argc > 1 ? strtoull(argv[1], NULL, 10) : 1;
     const uint64_t wanted = argc > 2 ? strtoull(argv[2], NULL, 10) : 200000;
     state = seed;
-    open_lent(&sup_lent), open_lent(&a_lent), open_lent(&b_lent);
+    open_lent(&sup_lent), open_lent(&a_lent), open_lent(&b_lent), open_lent(&sum_lent);
     static uint8_t sound[SUP], other[MOST];
     uint64_t mutated = 0, mutated_accepted = 0;
     while (call(sound, SUP, 0, FRESH) != 0) {}
@@ -288,6 +385,8 @@ int main(int argc, char **argv)
            " numbers of a pending second tried\nanswers 0 to 19:",
            seed, calls, mutated, mutated_accepted, traces_read, level_traces_read, told, pending_tried);
     for (int i = 0; i < 20; i++) printf(" %" PRIu64, answered[i]);
-    printf("\n");
+    for (uint64_t n = wanted / 10; n; n--) sums();
+    printf("\n%" PRIu64 " summaries and joinings: accepted %" PRIu64 ", 20 %" PRIu64 ", 21 %" PRIu64 ", 26 %" PRIu64 "\n", wanted / 10,
+           summed[0], summed[20], summed[21], summed[26]);
     return 0;
 }

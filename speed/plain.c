@@ -360,3 +360,35 @@ uint64_t plain_level_trace(const struct plain *p, uint8_t level, uint8_t *out, s
     memcpy(out, p->level[level - 1].layer.trace.accepted, 64);
     return 0;
 }
+
+/* Whether 21 numbers are a summary: every bound is of the length, so that an empty one is all zeros. */
+static int summary_in_range(const uint64_t s[21])
+{
+    const uint64_t first = s[0], length = s[1];
+    if (length > 86400 || (first == 0) != (length == 0)) return 0;
+    if (first > UINT32_MAX + 1ull - length) return 0; /* the last second */
+    for (int i = 2; i < 21; i++) {
+        const uint64_t most = i >= 13 && (i - 13) % 4 >= 2 ? 1 : 400000; /* DS; frames, heads and blocks */
+        if (s[i] > most * length) return 0;
+    }
+    return 1;
+}
+
+uint64_t plain_summary(const uint32_t record[20], uint64_t summary[21])
+{
+    uint64_t s[21] = {record[0], 1};
+    for (int i = 1; i < 20; i++) s[i + 1] = record[i];
+    if (!summary_in_range(s)) return 26;
+    memcpy(summary, s, sizeof s);
+    return 0;
+}
+
+uint64_t plain_join(const uint64_t earlier[21], const uint64_t later[21], uint64_t joined[21])
+{
+    if (!summary_in_range(earlier) || !summary_in_range(later)) return 26;
+    if (earlier[1] + later[1] > 86400) return 20;
+    if (earlier[1] && later[1] && later[0] != earlier[0] + earlier[1]) return 21;
+    joined[0] = earlier[1] ? earlier[0] : later[0];
+    for (int i = 1; i < 21; i++) joined[i] = earlier[i] + later[i];
+    return 0;
+}

@@ -17,6 +17,8 @@
 #define plain_trace PLAIN_NAME(plain_trace)
 #define plain_level_report PLAIN_NAME(plain_level_report)
 #define plain_level_trace PLAIN_NAME(plain_level_trace)
+#define plain_summary PLAIN_NAME(plain_summary)
+#define plain_join PLAIN_NAME(plain_join)
 
 struct plain_filter { /* n and n: the run of frames against what stands */
     uint8_t stands, run;
@@ -86,4 +88,9 @@ uint64_t plain_pending(const struct plain *p, uint32_t record[44]);
 uint64_t plain_trace(const struct plain *p, uint8_t layer, uint8_t *out, size_t len);
 uint64_t plain_level_report(const struct plain *p, uint8_t level);
 uint64_t plain_level_trace(const struct plain *p, uint8_t level, uint8_t *out, size_t len);
+
+/* A summary is 21 numbers: first second, length, frames, heads 0 to 9, then near, far, near DS and far DS of section and path. One second's, of the
+ * first twenty figures of its record; and two joined, where joined may be one of them. 26, 20 and 21 leave it alone. */
+uint64_t plain_summary(const uint32_t record[20], uint64_t summary[21]);
+uint64_t plain_join(const uint64_t earlier[21], const uint64_t later[21], uint64_t joined[21]);
 #endif

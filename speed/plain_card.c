@@ -142,3 +142,38 @@ uint64_t otn_level_trace(const uint8_t *sup, size_t sup_len, uint8_t level, uint
     if (load(&p, sup, sup_len)) return 17;
     return plain_level_trace(&p, level, out, out_len);
 }
+
+/* the number of so many bytes, the lowest first */
+static uint64_t little(const uint8_t *bytes, int n)
+{
+    uint64_t v = 0;
+    while (n--) v = v << 8 | bytes[n];
+    return v;
+}
+
+/* what out has room for */
+static void fill_summary(uint8_t *out, size_t out_len, const uint64_t summary[21])
+{
+    for (size_t i = 0; i < OTN_SUMMARY_BYTES && i < out_len; i++) out[i] = (uint8_t)(summary[i / 8] >> 8 * (i % 8));
+}
+
+uint64_t otn_summary(const uint8_t *record, size_t record_len, uint8_t *out, size_t out_len)
+{
+    uint32_t figures[20];
+    uint64_t summary[21];
+    if (record_len < 80) return 26;
+    for (int i = 0; i < 20; i++) figures[i] = (uint32_t)little(record + 4 * i, 4);
+    const uint64_t answer = plain_summary(figures, summary);
+    if (answer == 0) fill_summary(out, out_len, summary);
+    return answer;
+}
+
+uint64_t otn_join(const uint8_t *earlier, size_t earlier_len, const uint8_t *later, size_t later_len, uint8_t *out, size_t out_len)
+{
+    uint64_t a[21], b[21], joined[21];
+    if (earlier_len != OTN_SUMMARY_BYTES || later_len != OTN_SUMMARY_BYTES) return 26;
+    for (int i = 0; i < 21; i++) a[i] = little(earlier + 8 * i, 8), b[i] = little(later + 8 * i, 8);
+    const uint64_t answer = plain_join(a, b, joined);
+    if (answer == 0) fill_summary(out, out_len, joined);
+    return answer;
+}

@@ -53,6 +53,8 @@ __typeof__(otn_pending) hand_pending;
 __typeof__(otn_trace) hand_trace;
 __typeof__(otn_level_report) hand_level_report;
 __typeof__(otn_level_trace) hand_level_trace;
+__typeof__(otn_summary) hand_summary;
+__typeof__(otn_join) hand_join;
 enum { HAND_BYTES = sizeof(struct plain) }; /* what standin/otn.h has for OTN_SUPERVISOR_BYTES; hand_fresh refuses another length */
 
 #ifndef BASE
@@ -202,20 +204,23 @@ static int levels_differ(void)
     return 0;
 }
 
-static const char *const names[] = {"fresh", "level", "mark", "pending", "trace", "level_report", "level_trace"};
-enum { ONE_FRESH, ONE_LEVEL, ONE_MARK, ONE_PENDING, ONE_TRACE, ONE_LEVEL_REPORT, ONE_LEVEL_TRACE, NAMES };
+static const char *const names[] = {"fresh", "level", "mark", "pending", "trace", "level_report", "level_trace", "summary", "join"};
+enum { ONE_FRESH, ONE_LEVEL, ONE_MARK, ONE_PENDING, ONE_TRACE, ONE_LEVEL_REPORT, ONE_LEVEL_TRACE, ONE_SUMMARY, ONE_JOIN, NAMES };
 
-/* a level is provisioned once only: its call has a fresh supervisor each time; otn_pending has a second to tell */
-#define CALLS(bytes, fresh, level, step_levels, mark, pending, accepted, report, level_accepted)                         \
+/* a level is provisioned once only: its call has a fresh supervisor each time; otn_pending has a second to tell, otn_summary a record of one, and
+   otn_join has its summary and an empty one */
+#define CALLS(bytes, fresh, level, step_levels, mark, pending, accepted, report, level_accepted, summary, join)          \
     static uint8_t s[bytes];                                                                                             \
     const uint8_t *b = trace + 4;                                                                                        \
-    uint8_t r[176];                                                                                                      \
+    uint8_t r[176], none[OTN_SUMMARY_BYTES] = {0}, one[OTN_SUMMARY_BYTES], both[OTN_SUMMARY_BYTES];                      \
     uint64_t refused = FRESH(fresh, s, sizeof s);                                                                        \
     GIVE(level, s, sizeof s);                                                                                            \
     const uint8_t *o = trace + 87;                                                                                       \
     for (int i = 0; i < 400; i++, o += 71)                                                                               \
         refused |= step_levels(s, sizeof s, o, 64, o[64], o[65], o[66], o[66], o[66], o[66], o[66], o[66], o[66]) & 255; \
-    if (call == ONE_PENDING) refused |= mark(s, sizeof s, r, sizeof r) & 255;                                            \
+    if (call == ONE_PENDING || call >= ONE_SUMMARY) refused |= mark(s, sizeof s, r, sizeof r) & 255;                     \
+    if (call >= ONE_SUMMARY) refused |= pending(s, sizeof s, r, sizeof r) & 255;                                         \
+    if (call == ONE_JOIN) refused |= summary(r, sizeof r, one, sizeof one);                                              \
     for (; times; times--) switch (call) {                                                                               \
         case ONE_FRESH: refused |= FRESH(fresh, s, sizeof s); break;                                                     \
         case ONE_LEVEL: refused |= FRESH(fresh, s, sizeof s) | LEVEL(level, 1, s, sizeof s); break;                      \
@@ -223,20 +228,22 @@ enum { ONE_FRESH, ONE_LEVEL, ONE_MARK, ONE_PENDING, ONE_TRACE, ONE_LEVEL_REPORT,
         case ONE_PENDING: refused |= pending(s, sizeof s, r, sizeof r) & 255; break;                                     \
         case ONE_TRACE: refused |= accepted(s, sizeof s, 0, r, 64); break;                                               \
         case ONE_LEVEL_REPORT: refused |= report(s, sizeof s, 1) & 255; break;                                           \
-        default: refused |= level_accepted(s, sizeof s, 1, r, 64); break;                                                \
+        case ONE_LEVEL_TRACE: refused |= level_accepted(s, sizeof s, 1, r, 64); break;                                   \
+        case ONE_SUMMARY: refused |= summary(r, sizeof r, one, sizeof one); break;                                       \
+        default: refused |= join(none, sizeof none, one, sizeof one, both, sizeof both); break;                          \
         }                                                                                                                \
     return refused
 
 static uint64_t calls_card(int call, long times)
 {
     CALLS(OTN_SUPERVISOR_BYTES, otn_fresh, otn_level, otn_step_levels, otn_mark, otn_pending, otn_trace, otn_level_report,
-          otn_level_trace);
+          otn_level_trace, otn_summary, otn_join);
 }
 
 static uint64_t calls_hand(int call, long times)
 {
     CALLS(HAND_BYTES, hand_fresh, hand_level, hand_step_levels, hand_mark, hand_pending, hand_trace, hand_level_report,
-          hand_level_trace);
+          hand_level_trace, hand_summary, hand_join);
 }
 
 static void put(const uint8_t *b, size_t n)

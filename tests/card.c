@@ -1059,6 +1059,329 @@ static void neighbours(void) {
     memset(overhead, 0, sizeof overhead);
 }
 
+/* Summaries, as their 21 numbers. The two calls are made on lent bytes with a guard around each buffer: nothing is written but the output, of that
+   no more than a summary has and there is room for, and nothing at all where the call is refused. */
+enum { SUMS = OTN_SUMMARY_BYTES / 8, LENGTH = OTN_SUMMARY_LENGTH, FRAMES = OTN_SUMMARY_FRAMES, QUARTER = 900, DAY = 86400, FULL = 400000, FIGURES = 20, ROOM = 200 };
+enum { EARLIER, LATER, OUT, LENT };
+#define SUM(...) ((const uint64_t[SUMS]){__VA_ARGS__})
+static const uint8_t nothing[OTN_SUMMARY_BYTES];
+static uint8_t lent[LENT][GUARD + ROOM + GUARD];
+
+static uint8_t *lent_bytes(int which, size_t len) { return len ? lent[which] + GUARD : NULL; }
+
+/* otn_join on bytes of these lengths, or otn_summary of the first ones */
+static uint64_t summing(int joins, size_t a, size_t b, size_t out) {
+    uint8_t kept[LENT][GUARD + ROOM + GUARD];
+    memcpy(kept, lent, sizeof lent);
+    const uint8_t *earlier = lent_bytes(EARLIER, a), *later = lent_bytes(LATER, b);
+    const uint64_t answer = joins ? otn_join(earlier, a, later, b, lent_bytes(OUT, out), out) : otn_summary(earlier, a, lent_bytes(OUT, out), out);
+    const size_t written = answer ? 0 : out < OTN_SUMMARY_BYTES ? out : OTN_SUMMARY_BYTES;
+    memcpy(kept[OUT] + GUARD, lent[OUT] + GUARD, written);
+    check(memcmp(kept, lent, sizeof lent) == 0, "summaries, the bytes that a call leaves");
+    return answer;
+}
+
+static void lend(int which, const uint64_t *sums) {
+    memset(lent[which], 0xc3, sizeof lent[which]);
+    for (int i = 0; sums && i < OTN_SUMMARY_BYTES; i++) lent[which][GUARD + i] = (uint8_t)(sums[i / 8] >> 8 * (i % 8));
+}
+
+/* the numbers that the output has */
+static int are(const uint64_t *sums) {
+    int good = 1;
+    for (unsigned i = 0; i < SUMS; i++) good &= otn_summary_figure(lent[OUT] + GUARD, i) == sums[i];
+    return good;
+}
+
+/* two joined: the answer, which is the refusal and nothing else, and the numbers where it is accepted */
+static void joins(const uint64_t *a, const uint64_t *b, uint64_t answer, const uint64_t *sum, const char *what) {
+    lend(EARLIER, a);
+    lend(LATER, b);
+    lend(OUT, NULL);
+    check(summing(1, OTN_SUMMARY_BYTES, OTN_SUMMARY_BYTES, OTN_SUMMARY_BYTES) == answer && (answer || are(sum)), what);
+}
+
+/* one that is a summary, which the empty one is a unit for; and one that is 26 on either side, whatever the other is */
+static void valid(const uint64_t *a, const char *what) {
+    joins(a, SUM(0), 0, a, what);
+    joins(SUM(0), a, 0, a, what);
+}
+static void invalid(const uint64_t *a, const char *what) {
+    const uint64_t *others[] = {SUM(0), SUM(1, DAY), SUM(5, 2), SUM(0, 1), a};
+    for (int i = 0; i < 5; i++) {
+        joins(a, others[i], 26, NULL, what);
+        joins(others[i], a, 26, NULL, what);
+    }
+}
+
+/* whether a number is of seconds with DS: the third and fourth of a layer's four */
+static int of_ds(unsigned i) { return i >= OTN_SUMMARY_SECTION_NEAR && (i - OTN_SUMMARY_SECTION_NEAR) % FOUR >= 2; }
+
+static void joining(void) {
+    joins(SUM(0), SUM(0), 0, SUM(0), "two empty ones");
+    joins(SUM(1, DAY), SUM(0), 0, SUM(1, DAY), "the longest and the empty one");
+    joins(SUM(1, DAY), SUM(DAY + 1, 1), 20, NULL, "a second above the limit");
+    joins(SUM(1, DAY / 2), SUM(DAY / 2 + 1, DAY / 2), 0, SUM(1, DAY), "two halves of the limit");
+    joins(SUM(1, DAY / 2), SUM(DAY / 2 + 1, DAY / 2 + 1), 20, NULL, "two halves and a second");
+    joins(SUM(1, DAY), SUM(DAY + 1, DAY), 20, NULL, "two of the longest");
+    joins(SUM(1, 10), SUM(12, 9), 21, NULL, "a gap");
+    joins(SUM(1, 10), SUM(10, 11), 21, NULL, "an overlap");
+    joins(SUM(11, 10), SUM(1, 10), 21, NULL, "the later one first");
+    joins(SUM(7, 3), SUM(7, 3), 21, NULL, "the same again");
+    joins(SUM(1, 10, 1, 2, 3, 4, 5, 6, 7, 8, 9, 10, 11, 12, 13, 1, 2, 14, 15, 3, 4),
+          SUM(11, 10, 100, 200, 300, 400, 500, 600, 700, 800, 900, 1000, 1100, 1200, 1300, 5, 6, 1400, 1500, 7, 8), 0,
+          SUM(1, 20, 101, 202, 303, 404, 505, 606, 707, 808, 909, 1010, 1111, 1212, 1313, 6, 8, 1414, 1515, 10, 12), "following on, and each number by itself");
+    joins(SUM(1, DAY), SUM(5, 2), 20, NULL, "too long and not following on");
+    joins(SUM(1, DAY), SUM(90000, 1), 20, NULL, "too long and a gap");
+    joins(SUM(1, DAY + 1), SUM(0), 26, NULL, "one that is too long by itself");
+    joins(SUM(1, DAY, [15] = DAY + 1), SUM(DAY + 1, 1), 26, NULL, "no summary, and too long");
+    joins(SUM(1, 10), SUM(12, 9, [FRAMES] = 9 * FULL + 1), 26, NULL, "no summary, and a gap");
+    joins(SUM(0xffffffff, 1), SUM(1, 1), 21, NULL, "none follows on from the last second");
+    joins(SUM(0xffffffff, 1), SUM(0), 0, SUM(0xffffffff, 1), "but the empty one");
+    joins(SUM(0xfffffffe, 1), SUM(0xffffffff, 1), 0, SUM(0xfffffffe, 2), "the last two seconds");
+
+    /* first and length */
+    valid(SUM(0xffffffff, 1), "the last second");
+    invalid(SUM(0xffffffff, 2), "a last second above the last");
+    valid(SUM(0xffffffff - DAY + 1, DAY), "the last day");
+    invalid(SUM(0xffffffff - DAY + 2, DAY), "a day above the last second");
+    invalid(SUM(7), "no second, and a first one");
+    invalid(SUM(0, 3), "seconds, and no first one");
+    invalid(SUM(0, DAY), "a day, and no first second");
+    invalid(SUM(1, DAY + 1), "a length above the limit");
+    invalid(SUM(0, DAY + 1), "a length above the limit, and no first second");
+    for (int bit = 17; bit < 64; bit++) invalid(SUM(1, 1ull << bit | 1), "a long length");
+    for (int bit = 32; bit < 64; bit++) invalid(SUM(1ull << bit | 1, 1), "a first second above the last");
+    invalid(SUM(UINT64_MAX, 1), "a last second beyond 64 bits");
+    invalid(SUM(UINT64_MAX - 8, 10), "a last second of 1, modulo 64 bits");
+    invalid(SUM(0xffffffff, 0xffffffff00000001), "a length of 1 in its low word, and a last second beyond 64 bits");
+    invalid(SUM(UINT64_MAX, UINT64_MAX), "all ones");
+
+    /* the other numbers, by the length: at the bound, above it, and with high bits alone */
+    static const uint64_t lengths[] = {0, 1, 10, QUARTER, DAY};
+    for (int l = 0; l < 5; l++) {
+        const uint64_t length = lengths[l];
+        uint64_t all[SUMS] = {length > 0, length}, one[SUMS];
+        for (unsigned i = FRAMES; i < SUMS; i++) {
+            const uint64_t bound = of_ds(i) ? length : FULL * length;
+            memcpy(one, SUM(length > 0, length), sizeof one);
+            all[i] = one[i] = bound;
+            valid(one, "a number at its bound");
+            one[i] = bound + 1;
+            invalid(one, "a number above its bound");
+            for (int bit = 0; bit < 64; bit++) {
+                one[i] = 1ull << bit;
+                (one[i] <= bound ? valid : invalid)(one, "a number of one bit");
+            }
+            one[i] = UINT64_MAX;
+            invalid(one, "a number of all bits");
+        }
+        valid(all, "all numbers at their bounds");
+    }
+    /* sums above 32 bits, up to the greatest there are */
+    uint64_t half[SUMS] = {1, DAY / 2}, rest[SUMS] = {DAY / 2 + 1, DAY / 2}, whole[SUMS] = {1, DAY};
+    for (unsigned i = FRAMES; i < SUMS; i++) {
+        half[i] = rest[i] = (of_ds(i) ? 1 : FULL) * (uint64_t)DAY / 2;
+        whole[i] = 2 * half[i];
+    }
+    check(whole[FRAMES] == 34560000000, "400,000 times 86,400");
+    joins(half, rest, 0, whole, "the greatest sums");
+
+    /* bytes of any length on either side, and an output of any length */
+    for (size_t n = 0; n <= ROOM; n++) {
+        lend(EARLIER, half);
+        lend(LATER, rest);
+        lend(OUT, NULL);
+        const uint64_t refused = n == OTN_SUMMARY_BYTES ? 0 : 26;
+        check(summing(1, n, OTN_SUMMARY_BYTES, OTN_SUMMARY_BYTES) == refused && summing(1, OTN_SUMMARY_BYTES, n, OTN_SUMMARY_BYTES) == refused, "join, bytes of any length");
+        check(summing(1, n, n, OTN_SUMMARY_BYTES) == refused && summing(1, n, 0, n) == 26 && summing(1, 0, n, 0) == 26, "join, bytes of any length on both sides");
+        uint8_t full[OTN_SUMMARY_BYTES];
+        joins(half, rest, 0, whole, "join, a whole output");
+        memcpy(full, lent[OUT] + GUARD, sizeof full);
+        lend(OUT, NULL);
+        check(summing(1, OTN_SUMMARY_BYTES, OTN_SUMMARY_BYTES, n) == 0, "join, an output of any length");
+        check(memcmp(lent[OUT] + GUARD, full, n < sizeof full ? n : sizeof full) == 0, "join, what there is room for");
+    }
+    /* one buffer for both, which are only read */
+    uint8_t out[OTN_SUMMARY_BYTES];
+    memset(out, 0x5a, sizeof out);
+    check(otn_join(nothing, sizeof nothing, nothing, sizeof nothing, out, sizeof out) == 0 && memcmp(out, nothing, sizeof out) == 0, "join, the empty one with itself");
+    check(otn_join(NULL, 0, NULL, 0, NULL, 0) == 26, "join, NULL");
+    check(otn_quarter(1) == 0 && otn_quarter(900) == 0 && otn_quarter(901) == 1 && otn_quarter(DAY) == 95 && otn_quarter(DAY + 1) == 96, "the quarter-hour of a second");
+    check(otn_quarter(4294966500) == 4772184 && otn_quarter(0xffffffff) == 4772185 && otn_quarter(0) == 20496382304121724, "the last quarter-hours, and none");
+}
+
+static void figure(unsigned i, uint32_t x) {
+    for (unsigned j = 0; j < 4; j++) lent[EARLIER][GUARD + 4 * i + j] = (uint8_t)(x >> 8 * j);
+}
+
+/* a record of zeros but for its number, and behind its twenty figures any bytes */
+static void record_of(uint32_t second) {
+    memset(lent, 0xc3, sizeof lent);
+    memset(lent[EARLIER] + GUARD, 0, 4 * FIGURES);
+    figure(OTN_SECOND, second);
+}
+
+static uint64_t summed(void) { return summing(0, OTN_RECORD_BYTES, 0, OTN_SUMMARY_BYTES); }
+
+/* a summary has its figures in the order of a record, with the length after the number */
+static const uint8_t named[][2] = {
+    {OTN_SECOND, OTN_SUMMARY_LENGTH}, {OTN_FRAMES, OTN_SUMMARY_FRAMES}, {OTN_UNDER, OTN_SUMMARY_UNDER},
+    {OTN_SECTION_NEAR, OTN_SUMMARY_SECTION_NEAR}, {OTN_SECTION_FAR, OTN_SUMMARY_SECTION_FAR},
+    {OTN_SECTION_NEAR_DS, OTN_SUMMARY_SECTION_NEAR_DS}, {OTN_SECTION_FAR_DS, OTN_SUMMARY_SECTION_FAR_DS},
+    {OTN_PATH_NEAR, OTN_SUMMARY_PATH_NEAR}, {OTN_PATH_FAR, OTN_SUMMARY_PATH_FAR},
+    {OTN_PATH_NEAR_DS, OTN_SUMMARY_PATH_NEAR_DS}, {OTN_PATH_FAR_DS, OTN_SUMMARY_PATH_FAR_DS},
+};
+
+static void one_second(void) {
+    static const uint64_t worked[SUMS] = {1, 1, 2, 0, 2, [15] = 1, [19] = 1};
+    for (size_t i = 0; i < sizeof named / sizeof *named; i++) check(named[i][1] == named[i][0] + 1, "summary, the names of its figures");
+    check(OTN_SUMMARY_FIRST == 0 && OTN_SUMMARY_PATH_FAR_DS == SUMS - 1, "summary, its first and last figure");
+    uint8_t record[OTN_RECORD_BYTES];
+    memset(overhead, 0, sizeof overhead);
+    check(all_given(1) == 0 && otn_refusal(step(1, 0, 0)) == 0 && otn_refusal(step(1, 0, 0)) == 0 && closed(record), "the worked example, with levels");
+    /* a record and an output of any length */
+    for (size_t n = 0; n <= ROOM; n++) {
+        record_of(0);
+        memcpy(lent[EARLIER] + GUARD, record, sizeof record);
+        check(summing(0, n, 0, OTN_SUMMARY_BYTES) == (n < 80 ? 26 : 0) && (n < 80 || are(worked)), "summary, a record of any length");
+        check(summed() == 0 && are(worked), "summary, the worked example");
+        uint8_t full[OTN_SUMMARY_BYTES];
+        memcpy(full, lent[OUT] + GUARD, sizeof full);
+        lend(OUT, NULL);
+        check(summing(0, OTN_RECORD_BYTES, 0, n) == 0, "summary, an output of any length");
+        check(memcmp(lent[OUT] + GUARD, full, n < sizeof full ? n : sizeof full) == 0, "summary, what there is room for");
+        check(summing(0, n < 80 ? n : 79, 0, n) == 26, "summary, a short record and an output of any length");
+    }
+    check(otn_summary(NULL, 0, NULL, 0) == 26 && otn_summary(record, 79, NULL, 0) == 26 && otn_summary(record, 80, NULL, 0) == 0, "summary, NULL");
+    /* the figures one by one: where each goes, its bound, and above it */
+    for (unsigned i = 1; i < FIGURES; i++) {
+        const uint32_t bound = of_ds(i + 1) ? 1 : FULL;
+        uint64_t one[SUMS] = {5, 1};
+        static const uint32_t above[] = {2, 3, 256, FULL + 1, 0x10000, 0x1000000, 0x80000000, 0xffffffff};
+        record_of(5);
+        figure(i, bound);
+        one[i + 1] = bound;
+        check(summed() == 0 && are(one), "summary, a figure at its bound");
+        for (int j = 0; j < 8; j++) {
+            figure(i, above[j]);
+            one[i + 1] = above[j];
+            check(above[j] > bound ? summed() == 26 : summed() == 0 && are(one), "summary, a figure above its bound");
+        }
+        figure(i, bound);
+        figure(OTN_SECOND, 0);
+        check(summed() == 26, "summary, number 0 and a figure");
+    }
+    record_of(0);
+    check(summed() == 26, "summary, number 0");
+    record_of(0xffffffff);
+    check(summed() == 0 && are(SUM(0xffffffff, 1)), "summary, the last second");
+    /* heads that do not add up, and more blocks than frames, are not asked for */
+    record_of(9);
+    figure(OTN_UNDER + 3, 7);
+    figure(OTN_PATH_FAR, 8);
+    check(summed() == 0 && are(SUM(9, 1, [OTN_SUMMARY_UNDER + 3] = 7, [OTN_SUMMARY_PATH_FAR] = 8)), "summary, figures that do not fit one another");
+}
+
+/* a summary joined to another in its place, as a caller keeps it: by a buffer between */
+static int kept_with(uint8_t kept[OTN_SUMMARY_BYTES], const uint8_t later[OTN_SUMMARY_BYTES]) {
+    uint8_t both[OTN_SUMMARY_BYTES];
+    const uint64_t answer = otn_join(kept, OTN_SUMMARY_BYTES, later, OTN_SUMMARY_BYTES, both, sizeof both);
+    if (answer == 0) memcpy(kept, both, sizeof both);
+    return answer == 0;
+}
+
+/* plain sums of the records of seconds */
+static void add(uint64_t sums[SUMS], const uint8_t *record) {
+    if (sums[LENGTH] == 0) sums[0] = otn_figure(record, OTN_SECOND);
+    sums[LENGTH]++;
+    for (unsigned i = FRAMES; i < SUMS; i++) sums[i] += of_ds(i) ? otn_figure(record, i - 1) != 0 : otn_figure(record, i - 1);
+}
+
+/* a summary has these numbers, and its heads add up to its frames */
+static int whole_sums(const uint8_t *summary, const uint64_t sums[SUMS]) {
+    int good = 1;
+    uint64_t under = 0;
+    for (unsigned i = 0; i < SUMS; i++) good &= otn_summary_figure(summary, i) == sums[i];
+    for (unsigned head = 0; head < 10; head++) under += otn_summary_figure(summary, OTN_SUMMARY_UNDER + head);
+    return good && under == otn_summary_figure(summary, OTN_SUMMARY_FRAMES);
+}
+
+/* A day and a second more, as otn_mark and at the end otn_pending report them: in the first quarter-hour up to nine frames in a second, then few.
+   Failures, blocks, BDI and alignment errors come and go. */
+static void a_day(void) {
+    static uint8_t single[QUARTER][OTN_SUMMARY_BYTES], quarter[96][OTN_SUMMARY_BYTES];
+    uint8_t day[OTN_SUMMARY_BYTES], by_quarters[OTN_SUMMARY_BYTES], record[OTN_RECORD_BYTES], second[OTN_SUMMARY_BYTES];
+    uint64_t of_quarter[SUMS] = {0}, of_day[SUMS] = {0};
+    uint32_t seed = 6;
+    memset(overhead, 0, sizeof overhead);
+    memset(quarter, 0, sizeof quarter);
+    memset(day, 0, sizeof day);
+    memset(by_quarters, 0, sizeof by_quarters);
+    check(all_given(1) == 0, "fresh, all levels");
+    mfas = 0;
+    for (uint32_t n = 1; n <= DAY + 2; n++) {
+        /* second n, and the report of the one before it */
+        for (uint32_t i = 0; n <= DAY + 1 && i < (n <= QUARTER ? n % 10 : n % 16 == 0); i++) {
+            seed = seed * 1664525 + 1013904223;
+            const uint8_t bdi = n % 100 < 20 ? 8 : 0, iae = n % 50 == 7 ? 4 : 0;
+            send(0, (uint8_t)(0x10 | bdi | iae), (uint8_t)(0x10 | bdi | (n % 60 < 5 ? 7 : n % 60 < 9 ? 6 : n % 60 < 14 ? 5 : 1)));
+            if (n % 900 > 500 && n % 900 < 540) memset(overhead, 0, 6);
+            if (n > 600 && n < 640) overhead[6] = 0;
+            const uint8_t flagged = (uint8_t)(n % 30 == 0 ? 1 + (seed >> 16) % 3 : 0), sm = (uint8_t)(seed >> 30), pm = (uint8_t)(seed >> 28 & 3);
+            check(otn_refusal(otn_step(sup, ALL, overhead, 64, flagged, sm, pm)) == 0, "a day, a frame");
+        }
+        const uint64_t answer = n <= DAY + 1 ? otn_mark(sup, ALL, record, sizeof record) : otn_pending(sup, ALL, record, sizeof record);
+        if (n == 1) {
+            check(answer == 0, "a day, the first mark");
+            continue;
+        }
+        const uint32_t number = n - 1;
+        check(answer == TOLD && otn_summary(record, sizeof record, second, sizeof second) == 0, "a day, a reported second");
+        if (number > DAY) {
+            check(otn_join(day, sizeof day, second, sizeof second, record, sizeof record) == 20, "a day is full");
+            continue;
+        }
+        const uint64_t q = otn_quarter(number);
+        if (number <= QUARTER) memcpy(single[number - 1], second, sizeof second);
+        add(of_quarter, record);
+        add(of_day, record);
+        check(kept_with(quarter[q], second) && whole_sums(quarter[q], of_quarter), "a day, its quarter-hours by plain sums");
+        check(kept_with(day, second) && whole_sums(day, of_day), "a day by plain sums");
+        if (number % QUARTER) continue;
+        check(of_quarter[0] == QUARTER * q + 1 && of_quarter[LENGTH] == QUARTER, "a quarter-hour, its seconds");
+        check(kept_with(by_quarters, quarter[q]) && memcmp(by_quarters, day, sizeof day) == 0, "a day of quarter-hours is the day of its seconds");
+        memset(of_quarter, 0, sizeof of_quarter);
+    }
+    check(of_day[0] == 1 && of_day[LENGTH] == DAY, "a day, its seconds");
+    for (unsigned i = 0; i < SUMS; i++) {
+        const int of_tim = i == OTN_SUMMARY_UNDER + OTN_HEAD_SECTION_TIM || i == OTN_SUMMARY_UNDER + OTN_HEAD_PATH_TIM;
+        check((of_day[i] == 0) == of_tim, "a day, each figure is met, as no trace is compared");
+    }
+
+    /* wherever the first quarter-hour is cut, its two parts join to it; either may be empty */
+    static uint8_t from[QUARTER + 1][OTN_SUMMARY_BYTES];
+    uint8_t to[OTN_SUMMARY_BYTES];
+    for (int i = QUARTER - 1; i >= 0; i--)
+        check(otn_join(single[i], OTN_SUMMARY_BYTES, from[i + 1], OTN_SUMMARY_BYTES, from[i], OTN_SUMMARY_BYTES) == 0, "from a second to the end");
+    memset(to, 0, sizeof to);
+    for (int i = 0; i <= QUARTER; i++) {
+        check(otn_join(to, sizeof to, from[i], sizeof from[i], second, sizeof second) == 0 && memcmp(second, quarter[0], sizeof second) == 0, "two neighbours join to both");
+        if (i < QUARTER) check(kept_with(to, single[i]), "from the beginning to a second");
+        if (i > 0 && i < QUARTER) check(otn_join(from[i], OTN_SUMMARY_BYTES, to, sizeof to, second, sizeof second) == 21, "and not the other way");
+    }
+    /* three quarter-hours, one way and the other */
+    for (int q = 0; q + 2 < 96; q++) {
+        uint8_t left[OTN_SUMMARY_BYTES], right[OTN_SUMMARY_BYTES], both[OTN_SUMMARY_BYTES];
+        memcpy(left, quarter[q], sizeof left);
+        memcpy(right, quarter[q + 1], sizeof right);
+        check(kept_with(left, quarter[q + 1]) && kept_with(left, quarter[q + 2]) && kept_with(right, quarter[q + 2]), "three quarter-hours");
+        check(otn_join(quarter[q], OTN_SUMMARY_BYTES, right, sizeof right, both, sizeof both) == 0 && memcmp(left, both, sizeof both) == 0, "three quarter-hours, the other way");
+        check(otn_join(quarter[q], OTN_SUMMARY_BYTES, quarter[q + 2], OTN_SUMMARY_BYTES, both, sizeof both) == 21, "with one left out");
+    }
+    memset(overhead, 0, sizeof overhead);
+}
+
 /* Buffers that end where the pages end: a byte read or written behind one ends the test. */
 static uint8_t *fenced(size_t n) {
     size_t page = 1 << 16;
@@ -1069,7 +1392,8 @@ static uint8_t *fenced(size_t n) {
 
 static void fences(void) {
     uint8_t *s = fenced(ALL), *o = fenced(64), *n = fenced(32), *r = fenced(OTN_RECORD_BYTES), *t = fenced(64);
-    if (!s || !o || !n || !r || !t) {
+    uint8_t *a = fenced(OTN_SUMMARY_BYTES), *b = fenced(OTN_SUMMARY_BYTES), *c = fenced(OTN_SUMMARY_BYTES);
+    if (!s || !o || !n || !r || !t || !a || !b || !c) {
         check(0, "pages for the fences");
         return;
     }
@@ -1100,21 +1424,34 @@ static void fences(void) {
         check(otn_step_levels(s, ALL, o + 64 - m, m, 0, 0, 0, 0, 0, 0, 0, 0, 0) == 1 && otn_level_trace(s, ALL, 1, t + 64 - m, m) == 12, "fenced, short buffers of levels");
         if (m < 32) check(otn_fresh(s, ALL, 1, 1, 2, 1, 2, 0, 0, 0, 0, n + 32 - m, m, n, 32) == 10, "fenced, short names");
     }
+    /* the pending second, in a record that ends at its last figure or before it, and summaries */
+    for (size_t m = 0; m <= OTN_RECORD_BYTES; m++) {
+        uint8_t *end = r + OTN_RECORD_BYTES - m;
+        check(otn_pending(s, ALL, end, m) == TOLD && otn_summary(end, m, a, OTN_SUMMARY_BYTES) == (m < 80 ? 26 : 0), "fenced, summary");
+    }
+    for (size_t m = 0; m <= OTN_SUMMARY_BYTES; m++) {
+        const size_t all = OTN_SUMMARY_BYTES;
+        uint8_t *end = c + all - m;
+        check(otn_summary(r, OTN_RECORD_BYTES, end, m) == 0 && otn_join(a, all, b, all, end, m) == 0, "fenced, outputs");
+        memcpy(c, a, all);
+        check(otn_join(end, m, b, all, t, 64) == (m < all ? 26 : 0) && otn_join(b, all, end, m, t, 64) == (m < all ? 26 : 0), "fenced, short summaries");
+    }
 }
 
 /* What a call takes of the stack: it runs on a painted one, and the paint that is gone is counted from the caller's frame. Each call
    is held to its own bound, and all to the header's. libcard.a is for x86-64, and so is the change of stacks. */
-enum { FRESH, LEVEL, STEP, STEP_LEVELS, MARK, PENDING, TRACE, LEVEL_REPORT, LEVEL_TRACE, CALLS };
+enum { FRESH, LEVEL, STEP, STEP_LEVELS, MARK, PENDING, TRACE, LEVEL_REPORT, LEVEL_TRACE, SUMMARY, JOIN, CALLS };
 static struct {
     const char *name;
     long bound, deepest;
 } of_call[CALLS] = {{"otn_fresh", 256, 0}, {"otn_level", 512, 0}, {"otn_step", 960, 0}, {"otn_step_levels", 1024, 0},
                     {"otn_mark", 960, 0}, {"otn_pending", 768, 0}, {"otn_trace", 448, 0}, {"otn_level_report", 384, 0},
-                    {"otn_level_trace", 512, 0}};
+                    {"otn_level_trace", 512, 0}, {"otn_summary", 320, 0}, {"otn_join", 576, 0}};
 
 static uint8_t stack[1 << 16] __attribute__((aligned(16)));
 static int which;
-static uint8_t flags, layer, one_level, out_bytes[OTN_RECORD_BYTES];
+static uint8_t flags, layer, one_level, out_bytes[OTN_RECORD_BYTES], summary_bytes[OTN_SUMMARY_BYTES], joined_bytes[OTN_SUMMARY_BYTES];
+static const uint8_t *earlier_bytes = nothing;
 static uint8_t *frame_of_caller;
 
 static void caller(void) {
@@ -1128,6 +1465,8 @@ static void caller(void) {
     case PENDING: otn_pending(sup, ALL, out_bytes, sizeof out_bytes); break;
     case TRACE: otn_trace(sup, ALL, layer, out_bytes, 64); break;
     case LEVEL_REPORT: otn_level_report(sup, ALL, one_level); break;
+    case SUMMARY: otn_summary(out_bytes, sizeof out_bytes, summary_bytes, sizeof summary_bytes); break;
+    case JOIN: otn_join(earlier_bytes, OTN_SUMMARY_BYTES, summary_bytes, sizeof summary_bytes, joined_bytes, sizeof joined_bytes); break;
     default: otn_level_trace(sup, ALL, one_level, out_bytes, 64); break;
     }
 }
@@ -1155,6 +1494,11 @@ static void measure(int call) {
    accepted, then failed, then refused */
 static void readings(void) {
     measure(PENDING);
+    measure(SUMMARY);
+    for (int i = 0; i < 2; i++) {
+        earlier_bytes = i ? summary_bytes : nothing;
+        measure(JOIN);
+    }
     for (layer = 0; layer < 2; layer++) measure(TRACE);
     for (one_level = 0; one_level <= OTN_LEVELS + 1; one_level++) {
         measure(LEVEL_REPORT);
@@ -1212,6 +1556,9 @@ int main(int words, char **word) {
     compared();
     levels();
     neighbours();
+    joining();
+    one_second();
+    a_day();
     fences();
     if (words == 1) depths();
     for (int i = 0; i < GUARD; i++) check(room[i] == 0xc3 && room[GUARD + OTN_SUPERVISOR_BYTES + i] == 0xc3, "no byte around the supervisor");

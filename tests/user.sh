@@ -4,6 +4,7 @@
 . "$(dirname "$0")/common.sh"
 [ -x target/bin/ledger ] || rt check ledger || exit 1
 [ -x target/bin/explain ] || rt check explain || exit 1
+[ -x target/bin/quarters ] || rt check quarters || exit 1
 [ -s target/staticlib/libcard.a ] || rt staticlib card || exit 1
 here=$PWD
 
@@ -33,16 +34,19 @@ lists() { # TEXT: what was written, and nothing said
 ### the commands
 
 name='what stands in bin/'
-said 'explain ledger scenario timeline' "$(cd bin && echo *)"
+said 'explain ledger quarters scenario timeline' "$(cd bin && echo *)"
 for folder in second tools speed; do
     name="$folder/README.md"
     said yes "$([ -s "$folder/README.md" ] && echo yes)"
 done
 
-worked=$(cat examples/worked.listing)
-damaged=$(cat examples/damaged.listing)
-for command in ledger explain; do
-    only='^[SRE] '
+for command in ledger explain quarters; do
+    only='^[SRE] ' worked=$(cat examples/worked.listing) damaged=$(cat examples/damaged.listing) first='S 1 0 0 0 0 0 0 0 0 0 0 0 0 0 0 0 0 0 0 0'
+    if [ "$command" = quarters ]; then # both have one second: the sums are its figures
+        only='^[QDRE] ' first='Q 0 1 900 0 0 0 0 0 0 0 0 0 0 0 0 0 0 0 0 0 0 0'
+        worked=$(sed -E 's/^S 1 (.*)/Q 0 1 1 \1\nD 0 1 1 \1/' <<< "$worked")
+        damaged=$(sed -E 's/^S 1 (.*)/Q 0 1 1 \1\nD 0 1 1 \1/' <<< "$damaged")
+    fi
     ends 0 "bin/$command" examples/worked.trace
     said "$worked" "$(grep "$only" "$work/out")"
     said '' "$(cat "$work/err")"
@@ -78,7 +82,7 @@ for command in ledger explain; do
     # the reader goes away
     "$work/trace" P 'M*20000' > "$work/in"
     name="bin/$command and a reader that goes away"
-    said 'S 1 0 0 0 0 0 0 0 0 0 0 0 0 0 0 0 0 0 0 0' "$(timeout 30 "bin/$command" "$work/in" 2> "$work/err" | head -n 1)"
+    said "$first" "$(timeout 30 "bin/$command" "$work/in" 2> "$work/err" | head -n 1)"
     said '' "$(cat "$work/err")"
 
     # a signal to the command ends the program too: nobody is left to read
@@ -87,7 +91,7 @@ for command in ledger explain; do
     "bin/$command" < "$work/fifo" > "$work/out" &
     pid=$!
     exec {to}> "$work/fifo"
-    { cat examples/worked.trace && "$work/trace" M; } >&"$to" # the second mark has a line printed
+    { cat examples/worked.trace && "$work/trace" 'M*900'; } >&"$to" # the second mark has a second's line printed, the 901st a quarter-hour's
     for _ in {1..100}; do [ -s "$work/out" ] && break || sleep 0.1; done
     kill "$pid"
     wait "$pid"
@@ -114,6 +118,7 @@ for tool in bash cat chmod dirname find mkdir mktemp readlink rm tail tee timeou
 done
 refuses 'rt, .*not on the path' env PATH="$work/path" bin/ledger examples/worked.trace
 refuses 'rt, .*not on the path' env PATH="$work/path" bin/explain examples/worked.trace
+refuses 'rt, .*not on the path' env PATH="$work/path" bin/quarters examples/worked.trace
 cp -R bin tools second "$work/tree"
 rm -rf "$work/tree"/*/target
 refuses 'cargo, .*not on the path' env PATH="$work/path" "$work/tree/bin/scenario"
@@ -176,6 +181,12 @@ while read -r member at; do
     esac
 done < <(enum otn_figure)
 while read -r member at; do row "$((at + 22)) \| \`$member\`"; done < <(enum otn_level_figure)
+while read -r member at; do
+    case $member in
+    OTN_SUMMARY_UNDER) row "$((at + 3)) to $((at + 12)) \| \`$member\`" ;;
+    *) row "$((at + 3)) \| \`$member\`" ;;
+    esac
+done < <(enum otn_summary_figure)
 while read -r member head; do row "$head \| $((head + 4)) \| \`$member\`"; done < <(enum otn_head)
 while read -r member number; do
     [ "$number" = 0 ] || row "$number \| \`$member\` \| .* \| (yes|no)"
@@ -296,9 +307,10 @@ for block in "$work"/blocks/*[0-9]; do
         *'bin/explain my.trace'*) said "$(cat examples/scenarios/one-cut-once.explained)" "$(cat "$work/out")" ;;
         *'second --explain'*) said "$(cat examples/scenarios/one-cut-once.explained)" "$(cat "$work/out")" ;;
         *scenarios/tandem.txt*) said "$(cat examples/scenarios/tandem.explained)" "$(cat "$work/out")" ;;
+        *quarters/day.txt*my.quarters*) said "$(cat examples/quarters/day.quarters)" "$(cat "$clone/my.quarters")" ;;
         *firmware*) said "$(cat examples/firmware.txt)" "$(cat "$work/out")" ;;
         esac
-    elif grep -Eq '^[SREF] [0-9]' "$block"; then
+    elif grep -Eq '^[SREFQD] [0-9]' "$block"; then
         said yes "$([[ $(cat "$work/printed") == *"$(cat "$block")"* ]] && echo yes || cat "$block")"
     elif head -n 1 "$block" | grep -q '^# '; then
         said "$(cksum < "$clone/my.trace")" "$("$clone/bin/scenario" "$block" | cksum)"

@@ -1,4 +1,4 @@
-# Sourced by bin/ledger and bin/explain, which set name and usage. Runs the program that `rt check` proves and builds, as rt does: with the kit's C
+# Sourced by bin/ledger, bin/explain and bin/quarters, which set name and usage. Runs the program that `rt check` proves and builds, as rt does: with the kit's C
 # library, and under its emulator where the processor is not x86-64. Its output goes out as it comes; the status is told by its last lines.
 set -u
 root=$(cd "$(dirname "${BASH_SOURCE[0]}")/.." && pwd -P)

@@ -1,6 +1,8 @@
-//! What each C call answers, over a supervisor that may not be there: a lent supervisor of a wrong length is refusal 17.
+//! What each C call answers, over a supervisor that may not be there: a lent supervisor of a wrong length is refusal 17. otn_summary and otn_join
+//! have none.
 
 use crate::provisioning::{LevelProvisioning, Provisioning};
+use crate::summary::Summary;
 use crate::supervisor::{Second, Supervisor};
 
 /// The word a call answers.
@@ -30,6 +32,47 @@ pub fn record(second: &Second, buffer: &mut [u8]) {
     for (place, byte) in buffer.iter_mut().zip(bytes.take(RECORD)) {
         *place = byte;
     }
+}
+
+/// What otn_summary is handed, a record, or otn_join, an earlier and a later summary: any bytes.
+#[derive(Clone, Debug)]
+pub enum Handed {
+    Record(Vec<u8>),
+    Two(Vec<u8>, Vec<u8>),
+}
+
+impl Handed {
+    pub fn answer(&self, out: &mut [u8]) -> u64 {
+        match self {
+            Handed::Record(record) => summary(record, out),
+            Handed::Two(earlier, later) => join(earlier, later, out),
+        }
+    }
+}
+
+/// otn_summary: of a record's first 20 words; fewer bytes are 26.
+pub fn summary(record: &[u8], out: &mut [u8]) -> u64 {
+    if record.len() < 80 {
+        return 26;
+    }
+    let figure = |i: usize| u32::from_le_bytes(std::array::from_fn(|at| record[4 * i + at]));
+    summed(Summary::of_record(std::array::from_fn(figure)), out)
+}
+
+/// otn_join: "a handed-in one of a wrong byte length is 26".
+pub fn join(earlier: &[u8], later: &[u8], out: &mut [u8]) -> u64 {
+    match (Summary::from_bytes(earlier), Summary::from_bytes(later)) {
+        (Some(earlier), Some(later)) => summed(earlier.join(&later), out),
+        _ => 26,
+    }
+}
+
+/// The answer of otn_summary and otn_join: a refusal leaves the buffer, and otherwise it gets as many bytes as it has room for.
+fn summed(summary: Result<Summary, u8>, out: &mut [u8]) -> u64 {
+    word(summary.map(|summary| {
+        out.iter_mut().zip(summary.bytes()).for_each(|(place, byte)| *place = byte);
+        0
+    }))
 }
 
 /// The fields that otn_level is given.

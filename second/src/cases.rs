@@ -12,7 +12,8 @@
 //! expect head=3 dLOF !dLOM s.dTIM s.trace !p.trace      about the last frame
 //! begins cLOF 1                up to here cLOF went from absent to standing so many times
 //! bytes 45 00 01 00            raw bytes at this place
-//! listing                      the rest of the file is the listing
+//! listing                      from here on the file is the listing
+//! quarters                     from here on it is what `quarters` prints; a case has one of the two, or both
 //! ```
 //!
 //! With levels:
@@ -26,17 +27,27 @@
 //! begins t3.cLTC 1             from frame to frame
 //! ```
 //!
+//! With summaries (K6), by their 21 numbers or a record's 20 figures in order; those not written are 0, so that `0` is the empty summary:
+//!
+//! ```text
+//! second 1 2 0 2 gives 1 1 2 0 2            otn_summary
+//! join 1 10 with 11 10 gives 1 20           otn_join
+//! join 1 10 with 12 9 refuses 21
+//! ```
+//!
 //! Fields: s. and p. before bdi, bei, count, tti; iae, stat, flags, mfas (a number, or off: the count with its highest bit turned),
 //! fas (six hex bytes with no spaces, or 2to5 and 3to5: only these columns right); t1. to t6., or all. for the six of them, before
 //! bdi, bei, count, stat, tti. tti=0:5 is a trace of zeros whose byte 0 is 5; which byte is sent goes by the count. # begins a
 //! comment, which in every case says how the listing was worked out.
 
+use crate::card::Handed;
 use crate::frame::{plain, plain_level, Sent};
 use crate::generate::Item;
 use crate::level;
 use crate::provisioning::{LevelProvisioning, Provisioning};
-use crate::reader::Trace;
+use crate::reader::{self, Trace};
 use crate::report;
+use crate::summary::{self, Summary, BYTES};
 use crate::supervisor::Supervisor;
 
 #[derive(Clone, Debug)]
@@ -46,8 +57,12 @@ pub struct Case {
     pub levels: Vec<(u8, LevelProvisioning)>,
     /// A frame of kind 1 has six counts 0 here.
     pub items: Vec<Item>,
+    /// What is handed in to be summed.
+    pub handed: Vec<Handed>,
     pub bytes: Vec<u8>,
+    /// As the text has it; where it does not, as the second program prints it.
     pub listing: String,
+    pub quarters: String,
     /// What an expectation of the text does not find.
     pub unmet: Vec<String>,
 }
@@ -187,23 +202,62 @@ fn frame(zeros: bool, count: u8, fields: &[&str]) -> Result<Sent, String> {
     Ok(f)
 }
 
+/// So many numbers in order; those not written are 0.
+fn numbers<T: TryFrom<u64> + Copy + Default, const N: usize>(words: &[&str]) -> Result<[T; N], String> {
+    let mut all = [T::default(); N];
+    if words.len() > N {
+        return Err(format!("more than {N} numbers"));
+    }
+    for (place, word) in all.iter_mut().zip(words) {
+        *place = T::try_from(number(word)?).map_err(|_| format!("{word} is too large"))?;
+    }
+    Ok(all)
+}
+
+/// What stands before a word and after it.
+fn parted<'a, 'b>(words: &'a [&'b str], at: &str) -> Option<(&'a [&'b str], &'a [&'b str])> {
+    let place = words.iter().position(|word| *word == at)?;
+    Some((&words[..place], &words[place + 1..]))
+}
+
+/// What the line hands in, and what it says of the answer.
+fn handed(words: &[&str]) -> Result<(Handed, Result<Summary, u8>), String> {
+    let (given, answer) = match (parted(words, "gives"), parted(words, "refuses")) {
+        (Some((given, sum)), None) => (given, Ok(Summary::from(numbers(sum)?))),
+        (None, Some((given, refusal))) => (given, Err(numbers::<u8, 1>(refusal)?[0])),
+        _ => return Err("it gives a summary or refuses".into()),
+    };
+    let bytes = |words: &[&str]| numbers(words).map(|numbers| Summary::from(numbers).bytes().to_vec());
+    let handed = match (given[0], parted(&given[1..], "with")) {
+        ("second", None) => Handed::Record(numbers::<u32, 20>(&given[1..])?.into_iter().flat_map(u32::to_le_bytes).collect()),
+        ("join", Some((earlier, later))) => Handed::Two(bytes(earlier)?, bytes(later)?),
+        _ => return Err("a second, or two to be joined".into()),
+    };
+    Ok((handed, answer))
+}
+
 /// The case in a text, or the line that cannot be read.
 pub fn read(text: &str) -> Result<Case, String> {
     let mut lines: Vec<(usize, String)> = Vec::new();
-    let mut listing = None;
+    // The listing and what `quarters` prints, and which of them is being read.
+    let mut printed: [Option<String>; 2] = [None, None];
+    let mut into = None;
     let mut repeated: Option<(u64, Vec<(usize, String)>)> = None;
-    for (i, line) in text.lines().enumerate() {
-        if let Some(listing) = &mut listing {
-            if !line.starts_with('#') && !line.trim().is_empty() {
-                *listing += line;
-                *listing += "\n";
+    for (i, whole) in text.lines().enumerate() {
+        let line = whole.split('#').next().unwrap().trim();
+        if let Some(which) = ["listing", "quarters"].iter().position(|word| line == *word && repeated.is_none()) {
+            into = Some(printed[which].insert(String::new()));
+            continue;
+        }
+        if let Some(into) = &mut into {
+            if !line.is_empty() {
+                **into += whole;
+                **into += "\n";
             }
             continue;
         }
-        let line = line.split('#').next().unwrap().trim();
         match (line.split_whitespace().next(), &mut repeated) {
             (None, _) => {}
-            (Some("listing"), None) => listing = Some(String::new()),
             (Some("repeat"), None) => repeated = Some((number(line[6..].trim())?, Vec::new())),
             (Some("end"), Some(_)) => {
                 let (times, body) = repeated.take().unwrap();
@@ -215,7 +269,10 @@ pub fn read(text: &str) -> Result<Case, String> {
             (Some(_), None) => lines.push((i + 1, line.into())),
         }
     }
-    let listing = listing.ok_or("no listing")?;
+    let [listing, quarters] = printed;
+    if listing.is_none() && quarters.is_none() {
+        return Err("no listing".into());
+    }
     let mut lines = lines.into_iter();
     let (at, head) = lines.next().ok_or("empty")?;
     let fields: Vec<&str> = head.split_whitespace().collect();
@@ -228,8 +285,16 @@ pub fn read(text: &str) -> Result<Case, String> {
     if fields[0] == "provision" {
         trace.provisioning(&p);
     }
-    let mut case =
-        Case { provisioning: p.clone(), levels: Vec::new(), items: Vec::new(), bytes: Vec::new(), listing, unmet: Vec::new() };
+    let mut case = Case {
+        provisioning: p.clone(),
+        levels: Vec::new(),
+        items: Vec::new(),
+        handed: Vec::new(),
+        bytes: Vec::new(),
+        listing: String::new(),
+        quarters: String::new(),
+        unmet: Vec::new(),
+    };
     let mut s = Supervisor::fresh(p);
     let mut count = 0u8;
     let mut word = 0u64;
@@ -293,6 +358,16 @@ pub fn read(text: &str) -> Result<Case, String> {
                     trace.0.push(u8::from_str_radix(hex, 16).map_err(|e| fail(e.to_string()))?);
                 }
             }
+            "second" | "join" => {
+                let (handed, said) = handed(&words).map_err(fail)?;
+                let mut out = [0; BYTES];
+                let answer = (handed.answer(&mut out), out);
+                if answer != said.map_or_else(|refusal| (u64::from(refusal), [0; BYTES]), |sum| (0, sum.bytes())) {
+                    let sum = Summary::from_bytes(&out).map(|sum| sum.numbers());
+                    case.unmet.push(fail(format!("answered {}: {sum:?}", answer.0)));
+                }
+                case.handed.push(handed);
+            }
             "begins" => {
                 let (of, place) = match of_level(words[1]) {
                     Some((level, name)) => (&level_begins[usize::from(level) - 1], level_place(name)),
@@ -332,6 +407,8 @@ pub fn read(text: &str) -> Result<Case, String> {
         }
     }
     case.bytes = trace.0;
+    case.listing = listing.unwrap_or_else(|| reader::list(&case.bytes));
+    case.quarters = quarters.unwrap_or_else(|| summary::quarters(&case.bytes));
     Ok(case)
 }
 

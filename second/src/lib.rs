@@ -6,7 +6,7 @@
 //! takes up the answer recorded there, which is the same question put to the same history.
 //!
 //! The six tandem levels of document 02 (K1) are written the same way, each over its own history: `level.rs`. Of the pending second (K3)
-//! nothing is kept but which frames it has: what is told of it is asked when it is told.
+//! nothing is kept but which frames it has: what is told of it is asked when it is told. A summary (K6) is the sums over the seconds that it is of.
 
 pub mod card;
 pub mod cases;
@@ -26,6 +26,9 @@ pub mod reader;
 pub mod report;
 pub mod seconds_cover;
 pub mod seconds_generate;
+pub mod summary;
+pub mod summary_cover;
+pub mod summary_generate;
 pub mod supervisor;
 
 #[cfg(test)]
@@ -36,3 +39,6 @@ mod tests_levels;
 
 #[cfg(test)]
 mod tests_seconds;
+
+#[cfg(test)]
+mod tests_summary;

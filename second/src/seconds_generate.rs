@@ -140,7 +140,7 @@ fn drive(f: &mut Sent, party: usize, does: Does, code: u8) {
 }
 
 /// Damage that refuses a record, so that the scan ends with a second pending; what was done.
-fn damage(rng: &mut Random, bytes: &mut Vec<u8>) -> String {
+pub(crate) fn damage(rng: &mut Random, bytes: &mut Vec<u8>) -> String {
     let mut at = 0;
     let mut all = Vec::new();
     while at + 4 <= bytes.len() {

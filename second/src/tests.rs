@@ -4,6 +4,7 @@ use crate::frame::{plain, Sent};
 use crate::provisioning::{Provisioning, PATH, SECTION};
 use crate::reader::{list, Trace};
 use crate::report::head;
+use crate::summary::quarters;
 use crate::supervisor::{Supervisor, FULL_SECOND};
 
 struct Run {
@@ -706,9 +707,10 @@ fn directed_cases() {
         let case = crate::cases::read(&std::fs::read_to_string(&path).unwrap()).unwrap_or_else(|e| panic!("{path:?}: {e}"));
         assert_eq!(case.unmet, Vec::<String>::new(), "{path:?}");
         assert_eq!(list(&case.bytes), case.listing, "{path:?}");
+        assert_eq!(quarters(&case.bytes), case.quarters, "{path:?}");
         count += 1;
     }
-    assert_eq!(count, 129);
+    assert_eq!(count, 151);
 }
 
 #[test]

@@ -6,6 +6,7 @@
 
 #define OTN_SUPERVISOR_BYTES 2328
 #define OTN_RECORD_BYTES 176
+#define OTN_SUMMARY_BYTES 168
 
 uint64_t otn_fresh(uint8_t *sup, size_t sup_len, uint8_t k, uint32_t sm_thr, uint8_t sm_degm, uint32_t pm_thr, uint8_t pm_degm,
                    uint8_t sm_mode, uint8_t pm_mode, uint8_t sm_dis, uint8_t pm_dis, const uint8_t *sm_names,
@@ -21,4 +22,6 @@ uint64_t otn_pending(const uint8_t *sup, size_t sup_len, uint8_t *record, size_t
 uint64_t otn_trace(const uint8_t *sup, size_t sup_len, uint8_t layer, uint8_t *out, size_t out_len);
 uint64_t otn_level_report(const uint8_t *sup, size_t sup_len, uint8_t level);
 uint64_t otn_level_trace(const uint8_t *sup, size_t sup_len, uint8_t level, uint8_t *out, size_t out_len);
+uint64_t otn_summary(const uint8_t *record, size_t record_len, uint8_t *out, size_t out_len);
+uint64_t otn_join(const uint8_t *earlier, size_t earlier_len, const uint8_t *later, size_t later_len, uint8_t *out, size_t out_len);
 #endif

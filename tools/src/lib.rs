@@ -4,6 +4,7 @@
 
 use second::{frame, provisioning, reader};
 
+pub mod listing;
 pub mod program;
 pub mod scenario;
 pub mod timeline;

@@ -149,3 +149,21 @@ pub fn quoted(text: &str) -> String {
     let (shown, more) = parts(&text);
     format!("\"{shown}\"{more}")
 }
+
+/// 86400 as 86,400.
+pub(crate) fn commas(number: u64) -> String {
+    let digits = number.to_string();
+    let mut text = String::new();
+    for (i, digit) in digits.chars().enumerate() {
+        if i > 0 && (digits.len() - i) % 3 == 0 {
+            text.push(',');
+        }
+        text.push(digit);
+    }
+    text
+}
+
+/// So many of what: "1 second", "2 seconds".
+pub(crate) fn plural(number: u64, what: &str) -> String {
+    format!("{} {what}{}", commas(number), if number == 1 { "" } else { "s" })
+}

@@ -1,5 +1,5 @@
-//! The picture of fixed listings and explanations: its marks stand where they must and in their shade, it is well-formed, and a listing or
-//! a command line with a mistake is told.
+//! The picture of fixed listings, explanations and quarter-hours: its marks stand where they must and in their shade, it is well-formed, and a
+//! listing or a command line with a mistake is told.
 
 use std::io::Write;
 use std::ops::RangeInclusive;
@@ -291,15 +291,18 @@ fn an_empty_listing() {
     }
 }
 
+/// Where the axis has labels.
+fn axis_labels(svg: &str) -> Vec<usize> {
+    svg.lines()
+        .filter_map(|line| line.strip_prefix("<text class=\"small middle\" x=\""))
+        .map(|rest| rest.split('"').next().unwrap().parse().unwrap())
+        .collect()
+}
+
 #[test]
 fn labels_of_the_axis_keep_apart() {
     for seconds in [1, 2, 13, 60, 61, 899, 900, 901, 3_600, 86_400, 604_800] {
-        let svg = picture(seconds, &[]);
-        let labels: Vec<usize> = svg
-            .lines()
-            .filter_map(|line| line.strip_prefix("<text class=\"small middle\" x=\""))
-            .map(|rest| rest.split('"').next().unwrap().parse().unwrap())
-            .collect();
+        let labels = axis_labels(&picture(seconds, &[]));
         assert!(!labels.is_empty() && labels.windows(2).all(|two| two[0] + 60 <= two[1]), "{seconds}: {labels:?}");
     }
 }
@@ -362,7 +365,7 @@ fn mistakes_tell_the_line_and_what_was_expected() {
     assert_eq!(read("F 1 2 2 +IF\nF 2 1 2 +IM").unwrap_err(), "line 2: frame 2 of the trace; expected 3 to 400001");
     assert_eq!(read("F 2 1 2 +IF\nF 1 3 3 +IM").unwrap_err(), "line 2: second 1; expected 2");
     let junk = format!("{}\n", "\u{fffd}".repeat(1_000));
-    assert_eq!(read(&junk).unwrap_err(), format!("line 1: \"{}\"... begins the line; expected S, F, R or E", ".".repeat(60)));
+    assert_eq!(read(&junk).unwrap_err(), format!("line 1: \"{}\"... begins the line; expected S, F, Q, R or E", ".".repeat(60)));
 }
 
 #[test]
@@ -487,6 +490,298 @@ fn the_end_of_the_record_is_where_the_last_second_is() {
     }
 }
 
+/// What `quarters` prints of so many seconds of 20 frames, clear but for those given: some seconds, a head, and the frames of each under it. They
+/// make near DS, under heads 1 to 5 of section and path, otherwise of the path.
+fn quarters(seconds: u64, failed: &[(RangeInclusive<u64>, usize, u64)]) -> String {
+    let mut text = String::new();
+    let mut open = [('Q', 900, [0; 21]), ('D', 86_400, [0; 21])];
+    for number in 1..=seconds {
+        let mut second = [0; 21];
+        second[..4].copy_from_slice(&[number, 1, 20, 20]);
+        for (_, head, frames) in failed.iter().filter(|(at, _, _)| at.contains(&number)) {
+            second[3] -= frames;
+            second[3 + head] += frames;
+            second[15] = u64::from(*head < 6);
+            second[19] = 1;
+        }
+        for (letter, length, sums) in &mut open {
+            sums[0] = if sums[1] == 0 { number } else { sums[0] };
+            (1..21).for_each(|i| sums[i] += second[i]);
+            if sums[1] == *length || number == seconds {
+                text += &summed(*letter, (number - 1) / *length, &std::mem::take(sums));
+            }
+        }
+    }
+    format!("{text}E {seconds} {}\n", 20 * seconds)
+}
+
+/// A Q or D line: the first of its 21 numbers, zeros for the others.
+fn summed(letter: char, number: u64, sums: &[u64]) -> String {
+    let sums: Vec<String> = (0..21).map(|i| sums.get(i).unwrap_or(&0).to_string()).collect();
+    format!("{letter} {number} {}\n", sums.join(" "))
+}
+
+/// The rectangles of a class that are so high: x and width.
+fn of_height(svg: &str, class: &str, height: usize) -> Vec<(usize, usize)> {
+    rects(svg, class).iter().filter(|r| r[3] == height).map(|r| (r[0], r[2])).collect()
+}
+
+/// Quarter-hour 1 fails, of quarter-hour 5 ten seconds, of the last one a frame of its last second.
+fn a_bad_day() -> String {
+    quarters(86_400, &[(901..=1_800, 1, 20), (5_000..=5_009, 3, 20), (86_400..=86_400, 9, 1)])
+}
+
+#[test]
+fn a_day_of_quarter_hours() {
+    let svg = named("my.quarters", &a_bad_day(), None);
+    // Nine pixels each. The shade tells how many frames are under the head: all, and 200 or one of 18,000.
+    let place = |number: usize| vec![(LEFT + 9 * number, 9)];
+    for (class, number) in [("h1", 1), ("h3 s1", 5), ("h9 s1", 95)] {
+        assert_eq!(shade(&svg, class), [place(number), place(number)], "{class}");
+    }
+    assert_eq!(head(&svg, 0)[0], [(LEFT, 9), (LEFT + 18, 27), (LEFT + 54, 801)]);
+    // Strips of DS, of the section and of the path; near ones alone.
+    assert_eq!(of_height(&svg, "ds", 8), [place(1), place(1)].concat());
+    assert_eq!(of_height(&svg, "ds s1", 8), [place(5), place(5), place(95)].concat());
+    // The day: head 1 is its worst, and a hundredth of its frames fail.
+    assert_eq!(of_height(&svg, "h1 s1", 18), [(LEFT, 863)]);
+    for words in [
+        "my.quarters: 96 quarter-hours, 1,728,000 frames",
+        "3 quarter-hours with failed frames, the first is quarter-hour 1.",
+        "A column of the picture is one quarter-hour.",
+        "day 0: head 1",
+        "1 q",
+        "18,201",
+        "DS in 910 seconds",
+        "DS in 911 seconds",
+        "88",
+        "22:00",
+        "time at its beginning, h:mm",
+    ] {
+        assert!(svg.contains(&format!(">{words}</text>")), "{words}");
+    }
+    assert!(svg.contains(">Shade: how many frames are under the head, ") && !svg.contains("The last quarter-hour"));
+    let figures_of = |begin: &str| figures(&svg, begin).join("; ");
+    assert_eq!(
+        figures_of("quarter-hour 5,"),
+        "quarter-hour 5, seconds 4,501 to 5,400; 0 clear: 17,800 frames; 3 loss of frame (dLOF): 200 frames; \
+         section near blocks: 0, DS in 10 of 900 seconds; section far blocks: 0; \
+         path near blocks: 0, DS in 10 of 900 seconds; path far blocks: 0"
+    );
+    assert_eq!(
+        figures_of("day 0,"),
+        "day 0, seconds 1 to 86,400; 0 clear: 1,709,799 frames; 1 line signal fail (TSF-P): 18,000 frames; \
+         3 loss of frame (dLOF): 200 frames; 9 path trace mismatch: 1 frame; \
+         section near blocks: 0, DS in 910 of 86,400 seconds; section far blocks: 0; \
+         path near blocks: 0, DS in 911 of 86,400 seconds; path far blocks: 0"
+    );
+    assert_eq!(svg.matches("class=\"pointer\"").count(), 97);
+}
+
+#[test]
+fn quarter_hours_have_their_bars_and_far_figures() {
+    // Near and far of section and path: blocks by powers of ten, and DS in 900, 675, 450 and 1 of 900 seconds.
+    let sums = [1, 900, 360_000_000, 360_000_000, 0, 0, 0, 0, 0, 0, 0, 0, 0, 1, 100, 900, 675, 10_000, 100_000_000, 450, 1];
+    let svg = drawn(&format!("{}{}E 900 360000000\n", summed('Q', 0, &sums), summed('D', 0, &sums)));
+    // Nine steps of 6.2 pixels: 1, 10, 100 and so on to 100,000,000.
+    assert_eq!(rects(&svg, "bar").iter().map(|r| r[3]).collect::<Vec<_>>(), [6, 19, 31, 56]);
+    assert_eq!(["ds", "ds s3", "ds s2", "ds s1"].map(|class| of_height(&svg, class, 8).len()), [1, 1, 1, 1]);
+    assert_eq!(
+        figures(&svg, "quarter-hour 0,")[2..].join("; "),
+        "section near blocks: 1, DS in 900 of 900 seconds; section far blocks: 100, DS in 675 of 900 seconds; \
+         path near blocks: 10,000, DS in 450 of 900 seconds; path far blocks: 100,000,000, DS in 1 of 900 seconds"
+    );
+    // One column: the day is as narrow.
+    assert!(!svg.contains(">day 0: ") && of_height(&svg, "h0", 18) == [(LEFT, 59)]);
+}
+
+#[test]
+fn quarter_hours_without_frames_are_blank() {
+    let sums = [1, 900];
+    let svg = drawn(&format!("{}{}{}E 901 3\n", summed('Q', 0, &sums), summed('Q', 1, &[901, 1]), summed('D', 0, &[1, 901])));
+    for class in ["h0", "h1", "bar", "ds"] {
+        assert_eq!(rects(&svg, class).len(), 0, "{class}");
+    }
+    assert!(
+        svg.contains(">day 0: no frames</text>") && svg.contains(">3 frames after the last mark: not in the picture.</text>")
+    );
+    assert_eq!(figures(&svg, "quarter-hour 1,")[0], "quarter-hour 1, second 901");
+}
+
+#[test]
+fn what_is_left_of_a_quarter_hour() {
+    let svg = drawn(&quarters(902, &[(901..=901, 1, 20)]).replace("E 902 18040", "R 15 3758\nE 902 18045"));
+    assert_eq!(shade(&svg, "h1 s2"), [vec![(LEFT + 60, 60)], vec![(LEFT + 60, 60)]]);
+    assert_eq!(of_height(&svg, "h1 s1", 18), [(LEFT, 119)]);
+    assert_eq!(rects(&svg, "end").iter().map(|r| r[0]).collect::<Vec<_>>(), [LEFT + 120]);
+    for words in [
+        "The last quarter-hour, 1, has 2 of its 900 seconds.",
+        "5 frames after the last mark: not in the picture.",
+        "The record ends after 902 seconds: refusal 15 (kind unknown, or length wrong for it) at byte 3,758.",
+    ] {
+        assert!(svg.contains(&format!(">{words}</text>")), "{words}");
+    }
+    assert_eq!(figures(&svg, "quarter-hour 1,")[0], "quarter-hour 1, seconds 901 to 902");
+    assert_eq!(figures(&svg, "day 0,")[0], "day 0, seconds 1 to 902");
+    // A trace that ends with a quarter-hour has none left.
+    assert!(!drawn(&quarters(1_800, &[])).contains("The last quarter-hour"));
+}
+
+#[test]
+fn quarter_hours_of_many_days_share_columns() {
+    // Ten days: two quarter-hours to a pixel, 48 pixels to a day. One frame fails, of quarter-hour 5, and day 8 fails.
+    let svg = drawn(&quarters(864_000, &[(5_000..=5_000, 3, 1), (8 * 86_400 + 1..=9 * 86_400, 2, 20)]));
+    assert_eq!(shade(&svg, "h3 s1"), [vec![(LEFT + 2, 2)], vec![(LEFT + 2, 2)]]);
+    assert_eq!(head(&svg, 2), [vec![(LEFT + 384, 48)], vec![(LEFT + 384, 48)]]);
+    assert_eq!((of_height(&svg, "h3 s1", 18), of_height(&svg, "h2", 18)), (vec![(LEFT, 47)], vec![(LEFT + 384, 47)]));
+    assert_eq!(of_height(&svg, "h0", 18).len(), 8);
+    let days: Vec<_> = of_height(&svg, "pointer", 18);
+    assert_eq!(days, (0..10).map(|day| (LEFT + 48 * day, 48)).collect::<Vec<_>>());
+    let begins = [
+        "quarter-hours 4 to 5, seconds 3,601 to 5,400: 1 of 2 with failed frames",
+        "0 clear: 35,999 frames in 2 of 2 quarter-hours",
+    ];
+    assert_eq!(figures(&svg, "quarter-hours 4 to 5,")[..2], begins);
+    assert_eq!(figures(&svg, "quarter-hours 4 to 5,")[2], "3 loss of frame (dLOF): 1 frame in 1 of 2 quarter-hours");
+    assert_eq!(figures(&svg, "quarter-hours 4 to 5,")[3], "section near blocks: 0, DS in 1 of 1,800 seconds");
+    let words =
+        "A column of the picture holds 2 quarter-hours; the worst of them is shown, its shade tells how many frames fail.";
+    assert!(svg.contains(&format!(">{words}</text>")));
+    // Where a day is less than a pixel it still has its place, and no label stands on another.
+    for all in [1, 3, 97, 901, 2_000, 90_000] {
+        let lines = |number: u64| {
+            let day =
+                if number % 96 == 95 || number + 1 == all { summed('D', number / 96, &day_until(number)) } else { String::new() };
+            summed('Q', number, &[900 * number + 1, 900]) + &day
+        };
+        let svg = drawn(&((0..all).map(lines).collect::<String>() + &format!("E {} 0\n", 900 * all)));
+        assert_eq!(of_height(&svg, "pointer", 18).len() as u64, all.div_ceil(96));
+        assert!(of_height(&svg, "pointer", 18).iter().all(|(x, w)| *w > 0 && x + w <= LEFT + 901), "{all}");
+        let labels: Vec<usize> = axis_labels(&svg);
+        assert!(!labels.is_empty() && labels.windows(2).all(|two| two[0] + 60 <= two[1]), "{all}: {labels:?}");
+    }
+}
+
+/// First second and length of the day up to a whole quarter-hour.
+fn day_until(quarter: u64) -> [u64; 2] {
+    [86_400 * (quarter / 96) + 1, 900 * (quarter % 96 + 1)]
+}
+
+#[test]
+fn a_range_of_quarter_hours() {
+    let text = a_bad_day();
+    let part = |range| named("my.quarters", &text, Some(range));
+    // Those that have a second of the range.
+    assert!(part(4_501..=5_400).contains(">my.quarters: quarter-hour 5 of 96, 18,000 frames</text>"));
+    let svg = part(4_500..=5_401);
+    assert!(svg.contains(">my.quarters: quarter-hours 4 to 6 of 96, 54,000 frames</text>"));
+    assert!(svg.contains(">1 quarter-hour with failed frames, the first is quarter-hour 5.</text>"));
+    assert_eq!(shade(&svg, "h3 s1"), [vec![(LEFT + 60, 60)], vec![(LEFT + 60, 60)]]);
+    // Of its day stands what its line tells.
+    assert_eq!(of_height(&svg, "h1 s1", 18), [(LEFT, 179)]);
+    assert_eq!(figures(&svg, "day 0,")[0], "day 0, seconds 1 to 86,400");
+    assert!(part(1..=u64::MAX) == named("my.quarters", &text, None));
+    let none = |text: &str, range| page("my.quarters", &read(text).unwrap(), Some(range)).unwrap_err();
+    assert_eq!(none(&text, 86_401..=u64::MAX), "no second from 86,401 on; the listing has 86,400 seconds");
+    assert_eq!(none(&quarters(902, &[]), 903..=1_000), "no second from 903 on; the listing has 902 seconds");
+    let svg = named("my.quarters", &quarters(902, &[]), Some(902..=1_000));
+    assert!(svg.contains(">my.quarters: quarter-hour 1 of 2, 40 frames</text>"));
+}
+
+#[test]
+fn mistakes_in_quarter_hours() {
+    let q = |number: u64, sums: &[u64]| summed('Q', number, sums);
+    let d = |number: u64, sums: &[u64]| summed('D', number, sums);
+    let (first, rest) = (q(0, &[1, 900]), q(0, &[1, 2]));
+    let [filed, ended] = [q(0, &[1, 900, 5, 3, 2]), d(0, &[1, 900, 5, 3, 2])];
+    let begins = |letter: char, expected: &str| format!("\"{letter}\" begins the line; expected {expected}");
+    let told: Vec<(&str, String, String)> = vec![
+        (&first, "E 900 0".into(), begins('E', "Q or D")),
+        (&first, "R 15 4".into(), begins('R', "Q or D")),
+        (&first, listing(1, &[]), begins('S', "Q or D")),
+        (&first, q(2, &[1_801, 900]), "quarter-hour 2; expected 1".into()),
+        (&first, q(0, &[1, 900]), "quarter-hour 0; expected 1".into()),
+        (&first, q(1, &[900, 900]), "first second 900; expected 901".into()),
+        (&first, q(1, &[901, 0]), "0 seconds; expected 1 to 900".into()),
+        (&first, q(1, &[901, 901]), "901 seconds; expected 1 to 900".into()),
+        (&first, "Q 1 901".into(), "2 numbers; expected 22".into()),
+        (&first, q(1, &[901, 2]).replace(" 901 ", " x "), "\"x\" is not a number; expected digits".into()),
+        (&first, q(1, &[901, 2, 800_001, 800_001]), "800,001 frames; expected at most 800,000".into()),
+        (&first, q(1, &[901, 2, 9, 4, 4]), "8 frames under the ten heads; expected 9, the quarter-hour's".into()),
+        (
+            &first,
+            q(1, &[901, 2, 1, 1, 0, 0, 0, 0, 0, 0, 0, 0, 0, 0, 2]),
+            "2 blocks; expected at most 1, the quarter-hour's frames".into(),
+        ),
+        (
+            &first,
+            q(1, &[901, 2, 0, 0, 0, 0, 0, 0, 0, 0, 0, 0, 0, 0, 0, 0, 0, 0, 0, 0, 3]),
+            "3 defect seconds; expected at most 2, the quarter-hour's".into(),
+        ),
+        (&first, d(1, &[1, 900]), "day 1; expected 0".into()),
+        (&first, d(0, &[2, 900]), "first second: 2; expected 1, by the Q lines of the day".into()),
+        (&first, d(0, &[1, 899]), "length: 899; expected 900, by the Q lines of the day".into()),
+        (&filed, d(0, &[1, 900, 6, 3, 3]), "frames: 6; expected 5, by the Q lines of the day".into()),
+        (&filed, d(0, &[1, 900, 5, 2, 3]), "head 0: 2; expected 3, by the Q lines of the day".into()),
+        (
+            &first,
+            d(0, &[1, 900, 0, 0, 0, 0, 0, 0, 0, 0, 0, 0, 0, 0, 0, 0, 7]),
+            "section far DS: 7; expected 0, by the Q lines of the day".into(),
+        ),
+        (
+            &first,
+            d(0, &[1, 900, 0, 0, 0, 0, 0, 0, 0, 0, 0, 0, 0, 0, 0, 0, 0, 7]),
+            "path near blocks: 7; expected 0, by the Q lines of the day".into(),
+        ),
+        // What is not whole is the last.
+        (&rest, q(1, &[901, 2]), begins('Q', "D")),
+        (&rest, "E 2 0".into(), begins('E', "D")),
+        (&first, String::new(), "the listing ends; expected E".into()),
+    ];
+    for (before, line, message) in told {
+        assert_eq!(read(&format!("{before}{line}")).expect_err("a mistake"), format!("line 2: {message}"));
+    }
+    let after = |before: &str, line: &str| read(&format!("{before}{line}")).unwrap_err();
+    let rest = rest + &d(0, &[1, 2]);
+    assert_eq!(after(&rest, &q(1, &[901, 2])), "line 3: \"Q\" begins the line; expected R or E");
+    assert_eq!(after(&rest, &d(1, &[901, 2])), "line 3: \"D\" begins the line; expected R or E");
+    assert_eq!(after(&rest, "R 15 9\nQ 1"), "line 4: \"Q\" begins the line; expected E after R");
+    assert_eq!(after(&rest, "R 20 9\nE 2 0"), "line 3: refusal 20; expected 1 to 19");
+    assert_eq!(after(&rest, "E 3 0"), "line 3: 3 marks; expected 2, the seconds of the Q lines");
+    assert_eq!(after(&(filed + &ended), "E 900 4"), "line 3: 4 frames; expected at least 5, those of the Q lines");
+    // A whole day, and what comes where.
+    let day = quarters(86_400, &[]);
+    let (day, _) = day.split_once('E').unwrap();
+    assert_eq!(after(day, "D 1"), "line 98: \"D\" begins the line; expected Q, R or E");
+    let without: String = day.lines().take(96).map(|line| format!("{line}\n")).collect();
+    assert_eq!(after(&without, &q(96, &[86_401, 900])), "line 97: \"Q\" begins the line; expected D");
+    // Seconds and quarter-hours do not stand in one listing.
+    assert_eq!(read("D 0").unwrap_err(), "line 1: \"D\" begins the line; expected S, F, Q, R or E");
+    assert_eq!(read("F 1 2 2 +IF\nQ 0").unwrap_err(), "line 2: \"Q\" begins the line; expected S, F, R or E");
+    let seconds = second(1, 9, (0, 0), [0; 8]);
+    assert_eq!(after(&seconds, "Q 0"), "line 2: \"Q\" begins the line; expected S, F, R or E");
+}
+
+#[test]
+fn the_day_among_the_examples_is_that_of_its_scenario() {
+    let [scenario, text, svg] = [
+        include_str!("../../examples/quarters/day.txt"),
+        include_str!("../../examples/quarters/day.quarters"),
+        include_str!("../../examples/quarters/day.svg"),
+    ];
+    let mut trace = Vec::new();
+    tools::scenario::read(scenario).unwrap().write(&mut trace).unwrap();
+    assert!(second::summary::quarters(&trace) == text, "by the second program");
+    assert!(named("day.quarters", text, None) == svg, "draw it again: see docs/BENCH.md");
+    let told = figures(svg, "quarter-hour 50,").join("; ");
+    assert!(
+        told.starts_with("quarter-hour 50, seconds 45,001 to 45,900; 0 clear: 1,790 frames; 6 path AIS (dAIS): 10 frames; "),
+        "{told}"
+    );
+    assert!(told.ends_with("path near blocks: 0, DS in 5 of 900 seconds; path far blocks: 0"), "{told}");
+    assert_eq!(figures(svg, "day 1,")[..2], ["day 1, seconds 86,401 to 86,700", "0 clear: 600 frames"]);
+}
+
 #[test]
 fn the_picture_names_its_listing() {
     let svg = named("<a> & \"b\".listing", "E 0 0\n", None);
@@ -541,7 +836,7 @@ fn the_program() {
 fn the_program_names_the_text_of_a_mistake() {
     assert_eq!(refused(&[], "E 1 0\n"), ("standard input: line 1: 1 mark; expected 0, the S lines\n".into(), Some(1)));
     let file = format!("{EXAMPLES}/minute.txt");
-    assert_eq!(refused(&[&file], ""), (format!("{file}: line 1: \"#\" begins the line; expected S, F, R or E\n"), Some(1)));
+    assert_eq!(refused(&[&file], ""), (format!("{file}: line 1: \"#\" begins the line; expected S, F, Q, R or E\n"), Some(1)));
     let file = format!("{EXAMPLES}/minute.listing");
     assert_eq!(
         refused(&["--from", "61", &file], ""),
@@ -553,7 +848,7 @@ fn the_program_names_the_text_of_a_mistake() {
 
 #[test]
 fn the_program_tells_its_usage() {
-    let usage = "timeline [--from N] [--to M] [FILE] > SVG: draws the listing or explanation in FILE, or on standard input\n";
+    let usage = "timeline [--from N] [--to M] [FILE] > SVG: draws the listing, explanation or quarter-hours in FILE, or on standard input\n";
     for help in [&["-h"][..], &["--help"], &["--from", "--help"]] {
         let (out, told, status) = program(help, "");
         assert!(out.starts_with(usage) && out.contains("docs/BENCH.md") && out.lines().count() < 10, "{out}");

@@ -171,7 +171,7 @@ recorded-by v out n f d k =
     }
 
 -- a mark that answers 256 is accepted, and a second was closed before it
-told-mark : (c : Course) → unless (markRefused c) (bitBy c) (markRefused c) ≡ 256 → (markRefused c ≡ 0) × (eqb (closedBy c) 0 ≡ false)
+pub told-mark : (c : Course) → unless (markRefused c) (bitBy c) (markRefused c) ≡ 256 → (markRefused c ≡ 0) × (eqb (closedBy c) 0 ≡ false)
 unfolding answer
 told-mark c e = by (ltb (marksAmong (pageOf c)) 4294967295) (eqb (closedBy c) 0) refl refl
   where
@@ -180,7 +180,7 @@ told-mark c e = by (ltb (marksAmong (pageOf c)) 4294967295) (eqb (closedBy c) 0)
     by true false u v = (rw u, v)
     by false y u v = let z : _≡_ {A = ℕ} 4 256 = rw u at e in absurd (omega arith)
 
-told-pending : (c : Course) → bitBy c ≡ 256 → eqb (closedBy c) 0 ≡ false
+pub told-pending : (c : Course) → bitBy c ≡ 256 → eqb (closedBy c) 0 ≡ false
 told-pending c = by (eqb (closedBy c) 0)
   where
     by : (y : Bool) → _≡_ {A = ℕ} (cond y 0 256) 256 → y ≡ false

@@ -23,6 +23,10 @@ use Rattle.card.proofs.otn_trace.Kinds as trace-kinds
 use Rattle.card.proofs.otn_trace.Reads as trace-reads
 use Rattle.card.proofs.otn_level_report.Kinds as level-report-kinds
 use Rattle.card.proofs.otn_level_report.Reads as level-report-reads
+use Rattle.card.proofs.otn_summary.Kinds as summary-kinds
+use Rattle.card.proofs.otn_summary.Reads as summary-reads
+use Rattle.card.proofs.otn_join.Kinds as join-kinds
+use Rattle.card.proofs.otn_join.Reads as join-reads
 use Rattle.card.proofs.otn_level_trace.Kinds as level-trace-kinds
 use Rattle.card.proofs.otn_level_trace.Reads as level-trace-reads
 
@@ -80,6 +84,18 @@ level-trace-one κs a x y s t p q = p .answers ∙ sym (q .answers)
 pub level-trace-end : OneEnd 2 level-trace-kinds.ps level-trace-kinds.r (List ℕ) (λ κs s. now (s .1 .1 .0)) level-trace-reads.Post
 level-trace-end κs a x y s t p q = p .holds ∙ sym (q .holds)
 
+pub summary-one : OneAnswer 2 summary-kinds.ps summary-kinds.r summary-reads.Post
+summary-one κs a x y s t p q = p .answers ∙ sym (q .answers)
+
+pub summary-end : OneEnd 2 summary-kinds.ps summary-kinds.r (List ℕ) (λ κs s. now (s .1 .0)) summary-reads.Post
+summary-end κs a x y s t p q = p .fills ∙ sym (q .fills)
+
+pub join-one : OneAnswer 3 join-kinds.ps join-kinds.r join-reads.Post
+join-one κs a x y s t p q = p .answers ∙ sym (q .answers)
+
+pub join-end : OneEnd 3 join-kinds.ps join-kinds.r (List ℕ) (λ κs s. now (s .1 .1 .0)) join-reads.Post
+join-end κs a x y s t p q = p .fills ∙ sym (q .fills)
+
 -- nothing is asked beforehand
 pub fresh-asks-nothing : (κs : Lfts 3) (a : Dens κs fresh-kinds.ps) → fresh-reads.Asked κs a
 fresh-asks-nothing κs a = tt
@@ -107,3 +123,9 @@ level-report-asks-nothing κs a = tt
 
 pub level-trace-asks-nothing : (κs : Lfts 2) (a : Dens κs level-trace-kinds.ps) → level-trace-reads.Asked κs a
 level-trace-asks-nothing κs a = tt
+
+pub summary-asks-nothing : (κs : Lfts 2) (a : Dens κs summary-kinds.ps) → summary-reads.Asked κs a
+summary-asks-nothing κs a = tt
+
+pub join-asks-nothing : (κs : Lfts 3) (a : Dens κs join-kinds.ps) → join-reads.Asked κs a
+join-asks-nothing κs a = tt

@@ -31,6 +31,7 @@ ghost use Rattle.engines.specs.Engines.{framedByTable};
 ghost use Rattle.late.specs.Late.{freshLate, sectionErred, levelsErred, nextReport, lateMarked};
 ghost use Rattle.bays.specs.Image.{tandemBytes, tandemFrom, tandemSound};
 ghost use Rattle.slots.specs.Image.{lateBytes, lateFrom, lateSound};
+ghost use Rattle.pack.specs.Pack.{SummaryCall, JoinCall};
 ghost use Rattle.card.specs.Calls.{provisionBy, FreshCall, requestBy, LevelCall, refusalBy, unfiled, layeredOf, reportedOf, StepCall, figuresAt, erredIn, MarkCall, PendingCall, TraceCall, actsIn, toldWord, LevelReportCall, LevelTraceCall};
 
 // A frame in line, section and path: what stands after it, the path's maintenance defects by themselves, and the multiframe, which the levels take.
@@ -594,4 +595,20 @@ pub extern "C" fn otn_level_trace(sup: &[u8], level: u8, out: &mut [u8]) -> u64
         return wide(refusal);
     }
     17
+}
+
+// The summary of a reported second, from its record.
+#[no_mangle]
+pub extern "C" fn otn_summary(second: &[u8], out: &mut [u8]) -> u64
+    ensures { λ r. ⌜ SummaryCall (now (second .entry)) (now (out .entry)) r (now (out .exit)) ⌝ }
+{
+    pack::summarize(second, out)
+}
+
+// Two summaries joined.
+#[no_mangle]
+pub extern "C" fn otn_join(earlier: &[u8], later: &[u8], out: &mut [u8]) -> u64
+    ensures { λ r. ⌜ JoinCall (now (earlier .entry)) (now (later .entry)) (now (out .entry)) r (now (out .exit)) ⌝ }
+{
+    pack::join_bytes(earlier, later, out)
 }

@@ -1,4 +1,4 @@
 // Reads a trace from standard input and writes its listing to standard output.
 fn main() {
-    reading::run(false);
+    reading::run(false, false);
 }

@@ -1,4 +1,5 @@
 pub mod Ends
+pub mod Offices
 pub mod Marks
 pub mod Refuted
 pub mod Unique

@@ -4,13 +4,17 @@ use mathlib.Core.Path.{_≡_}
 use mathlib.Core.Bool.{Bool, cond}
 use mathlib.Core.List.{List, [], _∷_, _++_}
 use lib.Dec.{eqb}
+use lib.ListN.{getD}
+use Rattle.bins.specs.Bins.{binsWith, openedOf, closedLines, restLines}
+use Rattle.bins.specs.declared.Bins.{Bins}
 use Rattle.listing.specs.Text.{secondLine, refusalLine, endLine}
 use Rattle.causes.specs.Causes.{reportOf}
 use Rattle.change.specs.declared.Shown.{Shown}
 use Rattle.change.specs.Change.{shownOf, changeLine}
 use Rattle.trace.specs.declared.State.{State}
 use Rattle.watch.specs.Watch as watch
-use Rattle.stream.specs.Stream.{Note, second, change, pendingListed}
+use Rattle.late.specs.Late.{pendingOf}
+use Rattle.stream.specs.Stream.{Note, second, change, lastListed, pendingListed}
 use Rattle.stream.specs.Figures.{afterCall}
 
 -- what a state shows: the report of what stands (its counts, which are the frame's own, left at 0), what stands of the levels, and the accepted traces
@@ -41,14 +45,52 @@ unfoldable pub endLines : ℕ → ℕ → ℕ → ℕ → List ℕ
 endLines refusal offset marks frames =
     cond (eqb refusal 0) (endLine marks frames) (refusalLine refusal offset ++ endLine marks frames)
 
+-- For the network office (document 02, K6) a second is told by what it closes, its quarter-hour and its day: their lines, b being open before it; and what is open after it.
+unfoldable pub lineBy : Bool → Bins → Note → List ℕ
+lineBy office b (second figures) = cond office (closedLines (binsWith b figures) (getD figures 0 0)) (lineFor (second figures))
+lineBy office b (change total was is) = lineFor (change total was is)
+
+unfoldable pub openAfter : Bins → Note → Bins
+openAfter b (second figures) = openedOf (binsWith b figures) (getD figures 0 0)
+openAfter b (change total was is) = b
+
+-- the lines of all that is told, and what is open after it
+unfoldable pub linesOf : Bool → Bins → List Note → List ℕ
+linesOf office b [] = []
+linesOf office b (n ∷ ns) = lineBy office b n ++ linesOf office (openAfter b n) ns
+
+unfoldable pub openOver : Bins → List Note → Bins
+openOver b [] = b
+openOver b (n ∷ ns) = openOver (openAfter b n) ns
+
+-- the same of the second that was reported last, by its forty-four figures: a line has the first twenty of them, and a summary takes no other
+abbrev pub closedText : Bins → State → List ℕ
+closedText b st = closedLines (binsWith b (st .last)) (getD (st .last) 0 0)
+
+abbrev pub reportedText : Bool → Bins → State → List ℕ
+reportedText office b st = cond office (closedText b st) (lineFor (second (lastListed st)))
+
+abbrev pub openedBy : Bins → State → Bins
+openedBy b st = openedOf (binsWith b (st .last)) (getD (st .last) 0 0)
+
+-- at the end: the pending second's line; for the office the lines of what it closes, if there is one, and of what is open then
+abbrev pub lastClosed : Bins → List ℕ → List ℕ
+lastClosed b f = closedLines (binsWith b f) (getD f 0 0) ++ restLines (openedOf (binsWith b f) (getD f 0 0))
+
+abbrev pub officeEnd : Bins → State → List ℕ
+officeEnd b st = cond (pendingOf (st .sup) .told) (lastClosed b (pendingOf (st .sup) .figures)) (restLines b)
+
+abbrev pub endText : Bool → Bins → State → List ℕ
+endText office b st = cond office (officeEnd b st) (pendingLine st)
+
 -- the last lines of a scan that stands in a state: its marks are the seconds closed
-unfoldable pub lastLines : State → ℕ → ℕ → ℕ → List ℕ
-lastLines st refusal offset frames = pendingLine st ++ endLines refusal offset (st .sup .tandem .base .seconds) frames
+unfoldable pub lastLines : Bool → Bins → State → ℕ → ℕ → ℕ → List ℕ
+lastLines office b st refusal offset frames = endText office b st ++ endLines refusal offset (st .sup .tandem .base .seconds) frames
 
 -- the last lines, where the output ends with them
-abbrev pub endingOf : Bool → State → ℕ → ℕ → ℕ → List ℕ
-endingOf done st refusal offset frames = cond done (lastLines st refusal offset frames) []
+abbrev pub endingOf : Bool → Bool → Bins → State → ℕ → ℕ → ℕ → List ℕ
+endingOf done office b st refusal offset frames = cond done (lastLines office b st refusal offset frames) []
 
--- the room that they are given: a second's line, and two lines of 44 bytes at most
+-- the room that they are given: the lines of two seconds, and two lines of 44 bytes at most
 abbrev pub lastRoom : ℕ
-lastRoom = 1014
+lastRoom = 1944

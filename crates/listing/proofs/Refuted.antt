@@ -23,6 +23,8 @@ use Rattle.listing.proofs.refusal_line.Kinds as refusal-kinds
 use Rattle.listing.proofs.refusal_line.Reads as refusal-reads
 use Rattle.listing.proofs.end_line.Kinds as end-kinds
 use Rattle.listing.proofs.end_line.Reads as end-reads
+use Rattle.listing.proofs.bin_line.Kinds as bin-kinds
+use Rattle.listing.proofs.bin_line.Reads as bin-reads
 
 -- a text is put at its place, not at the start
 pub text-at-start : (κs : Lfts 2) (a : Dens κs text-kinds.ps) (r : ℕ) (s : AtExit (endedOf 2 text-kinds.ps text-kinds.r) κs)
@@ -51,14 +53,14 @@ start-without-blanks κs a s letter ns d at p =
 
 -- twenty figures of one digit make 42 bytes: with one figure less they would be 40, with those of one level 50
 pub second-short : (κs : Lfts 1) (a : Dens κs second-kinds.ps) (s : AtExit (endedOf 1 second-kinds.ps second-kinds.r) κs)
-    → a .0 ≡ replicate 44 1 → a .1 .0 ≡ 20 → now (a .1 .1 .0) ≡ replicate 926 0 → a .1 .1 .1 .0 ≡ 0 → second-reads.Post κs a 40 s → ⊥
+    → a .0 ≡ replicate 44 1 → a .1 .0 ≡ 20 → now (a .1 .1 .0) ≡ replicate 928 0 → a .1 .1 .1 .0 ≡ 0 → second-reads.Post κs a 40 s → ⊥
 unfolding fitted textLine fieldsOf spaced decimalIn
 second-short κs a s figures n d at p =
     let h : _≡_ {A = ℕ} 40 42 = rw (figures, n, d, at) at (p .0) in
     omega arith
 
 pub second-long : (κs : Lfts 1) (a : Dens κs second-kinds.ps) (s : AtExit (endedOf 1 second-kinds.ps second-kinds.r) κs)
-    → a .0 ≡ replicate 44 1 → a .1 .0 ≡ 20 → now (a .1 .1 .0) ≡ replicate 926 0 → a .1 .1 .1 .0 ≡ 0 → second-reads.Post κs a 50 s → ⊥
+    → a .0 ≡ replicate 44 1 → a .1 .0 ≡ 20 → now (a .1 .1 .0) ≡ replicate 928 0 → a .1 .1 .1 .0 ≡ 0 → second-reads.Post κs a 50 s → ⊥
 unfolding fitted textLine fieldsOf spaced decimalIn
 second-long κs a s figures n d at p =
     let h : _≡_ {A = ℕ} 50 42 = rw (figures, n, d, at) at (p .0) in
@@ -82,4 +84,12 @@ unfolding fitted over textLine fieldsOf spaced decimalIn
 frames-first κs a r s marks frames d at o p =
     let e : now (s .1 .1 .0) ≡ over (replicate 44 0) 0 (bytes "E 1 2\n") = rw (marks, frames, d, at) at (p .1) in
     let h : _≡_ {A = ℕ} 50 49 = ap (λ (l : List ℕ). getD l 2 0) (sym o ∙ e) in
+    omega arith
+
+-- bin_line: twenty-one figures of one digit and a number make 46 bytes, and not 44
+pub bin-without-number : (κs : Lfts 1) (a : Dens κs bin-kinds.ps) (s : AtExit (endedOf 1 bin-kinds.ps bin-kinds.r) κs)
+    → a .1 .0 ≡ 0 → a .1 .1 .0 ≡ replicate 21 1 → now (a .1 .1 .1 .0) ≡ replicate 464 0 → a .1 .1 .1 .1 .0 ≡ 0 → bin-reads.Post κs a 44 s → ⊥
+unfolding fitted textLine fieldsOf spaced decimalIn
+bin-without-number κs a s number ns d at p =
+    let h : _≡_ {A = ℕ} 44 46 = rw (number, ns, d, at) at (p .0) in
     omega arith

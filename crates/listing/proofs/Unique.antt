@@ -16,6 +16,8 @@ use Rattle.listing.proofs.refusal_line.Kinds as refusal-kinds
 use Rattle.listing.proofs.refusal_line.Reads as refusal-reads
 use Rattle.listing.proofs.end_line.Kinds as end-kinds
 use Rattle.listing.proofs.end_line.Reads as end-reads
+use Rattle.listing.proofs.bin_line.Kinds as bin-kinds
+use Rattle.listing.proofs.bin_line.Reads as bin-reads
 
 pub text-one : OneAnswer 2 text-kinds.ps text-kinds.r text-reads.Post
 text-one κs a x y s t p q = p .0 ∙ sym (q .0)
@@ -52,3 +54,9 @@ end-one κs a x y s t p q = p .0 ∙ sym (q .0)
 
 pub end-end : OneEnd 1 end-kinds.ps end-kinds.r (List ℕ) (λ κs s. now (s .1 .1 .0)) end-reads.Post
 end-end κs a x y s t p q = p .1 ∙ sym (q .1)
+
+pub bin-one : OneAnswer 1 bin-kinds.ps bin-kinds.r bin-reads.Post
+bin-one κs a x y s t p q = p .0 ∙ sym (q .0)
+
+pub bin-end : OneEnd 1 bin-kinds.ps bin-kinds.r (List ℕ) (λ κs s. now (s .1 .1 .1 .0)) bin-reads.Post
+bin-end κs a x y s t p q = p .2 ∙ sym (q .2)

@@ -54,9 +54,14 @@ numberRoom = 20
 abbrev pub startRoom : ℕ
 startRoom = 64
 
--- the room that a line is given: two bytes, and 21 for each number, of which the line of a second has 44 at most
+-- the room that the lines of a reported second are given: two bytes for a line, and 21 for each number, of which the line of a second has 44 at most, and those of a
+-- quarter-hour and a day together 44 (document 02, K6)
 abbrev pub secondRoom : ℕ
-secondRoom = 926
+secondRoom = 928
+
+-- the line of a quarter-hour or a day by itself has 22
+abbrev pub binRoom : ℕ
+binRoom = 464
 
 abbrev pub pairRoom : ℕ
 pairRoom = 44

@@ -4,7 +4,7 @@ ghost use mathlib.Core.List.{[], _∷_};
 ghost use Prim.Native.Nat.{_+_, _-_, _*_, _≤_, _<_};
 ghost use lib.ListN.{length, take};
 ghost use Rattle.answer.specs.Over.{over};
-ghost use Rattle.listing.specs.Text.{decimalOf, spaced, fieldsOf, lineStart, textLine, fitted, secondLine, refusalLine, endLine, numberRoom, startRoom, secondRoom, pairRoom};
+ghost use Rattle.listing.specs.Text.{decimalOf, spaced, fieldsOf, lineStart, textLine, fitted, secondLine, refusalLine, endLine, numberRoom, startRoom, secondRoom, binRoom, pairRoom};
 ghost use Rattle.listing.specs.Wrote.{Wrote};
 
 fn wide(x: u32) -> u64
@@ -125,12 +125,34 @@ pub fn second_line(figures: [u32; 44], n: usize, out: &mut [u8], at: usize) -> u
     ensures { λ r. ⌜ (r ≡ at + length (fitted (length (now (out .entry))) at secondRoom (secondLine (take n figures)))) × (r ≤ at + secondRoom) × (now (out .exit) ≡ over (now (out .entry)) at (fitted (length (now (out .entry))) at secondRoom (secondLine (take n figures)))) ⌝ }
 {
     let free = room(out.len(), at);
-    if 926 <= free {
+    if 928 <= free {
         let ns = widened(figures);
         if n < 44 {
             return put_line(b'S', &ns[0..n], out, at);
         }
         return put_line(b'S', &ns, out, at);
+    }
+    at
+}
+
+// A line of a number and of twenty-one behind it.
+fn put_numbered(letter: u8, number: u64, ns: &[u64], out: &mut [u8], at: usize) -> usize
+    requires { ⌜ at + (23 + 21 * length (now ns)) ≤ length (now out) ⌝ }
+    ensures { λ r. ⌜ Wrote (23 + 21 * length (now (ns .entry))) (now (out .entry)) at r (now (out .exit)) (textLine letter (number ∷ now (ns .entry))) ⌝ }
+{
+    let p = put_byte(letter, out, at);
+    let q = put_field(number, out, p);
+    let t = put_fields(ns, out, q);
+    put_byte(b'\n', out, t)
+}
+
+// Puts the line of a quarter-hour or a day, of its letter, its number and its summary's, as `second_line` does.
+pub fn bin_line(letter: u8, number: u64, ns: [u64; 21], out: &mut [u8], at: usize) -> usize
+    ensures { λ r. ⌜ (r ≡ at + length (fitted (length (now (out .entry))) at binRoom (textLine letter (number ∷ ns)))) × (r ≤ at + binRoom) × (now (out .exit) ≡ over (now (out .entry)) at (fitted (length (now (out .entry))) at binRoom (textLine letter (number ∷ ns)))) ⌝ }
+{
+    let free = room(out.len(), at);
+    if 464 <= free {
+        return put_numbered(letter, number, &ns, out, at);
     }
     at
 }

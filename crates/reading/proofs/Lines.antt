@@ -1,6 +1,6 @@
 -- The laws of the loop that takes a piece's records and gathers their lines. Assumes nothing.
 use Prim.Native.Nat.{ℕ, _+_, _-_, _*_, _≤_}
-use mathlib.Core.Path.{_≡_, refl, _∙_, ap, sym}
+use mathlib.Core.Path.{_≡_, refl, _∙_, ap, sym, subst}
 use mathlib.Core.Bool.{Bool, true, false}
 use mathlib.Core.List.{List, [], _∷_, _++_}
 use native.Mathlib.Nat.{add-zero, add-sub-cancel-left}
@@ -21,9 +21,10 @@ use Rattle.stream.specs.Stream.{lastListed, Note, second, change, Scan, before,
 use Rattle.stream.specs.Counts.{Counted}
 use Rattle.stream.proofs.Streams.{agree}
 use Rattle.stream.proofs.Counts.{run-counted, Quiet, wide, marked, told-quiet, Stands, stands}
-use Rattle.lines.specs.Line.{lineFor}
+use Rattle.bins.specs.declared.Bins.{Bins}
+use Rattle.lines.specs.Line.{lineFor, lineBy, openAfter, linesOf, openOver, reportedText, openedBy}
+use Rattle.lines.proofs.Offices.{reported-by, opened-by}
 use Rattle.lines.proofs.Marks.{mark-untold}
-use Rattle.reading.specs.Listing.{linesOf}
 use Rattle.reading.specs.Turn.{readingOf, readFrom, haltOf, Sound}
 use Rattle.reading.specs.declared.Reading.{Reading}
 use Rattle.reading.specs.declared.Halt.{Halt}
@@ -38,7 +39,7 @@ pub record Gathered : Type 0 where
 abbrev pub gatheredOf : Reading → List ℕ → Gathered
 gatheredOf r s =
     let c : Scan = readFrom r s in
-    record { reading = readingOf (r .tell) c; used = c .at - r .at; put = length (linesOf (c .told)); refusal = c .refusal }
+    record { reading = readingOf r c; used = c .at - r .at; put = length (linesOf (r .office) (r .bins) (c .told)); refusal = c .refusal }
 
 -- which stop it was, by what it says
 reported-is : (x : Stop) → haltOf x .ends ≡ false → haltOf x .told ≡ false → x ≡ stop.Reported
@@ -89,21 +90,22 @@ module _ (tell : Bool) (base n : ℕ) (st : State) (s : List ℕ) (r : Run) wher
 
 -- What holds in the loop: the records before `at` are taken, and the lines of what they told stand in the first `put` bytes of out, which was
 -- d; what is left gives what the whole gives.
-pub record Going (from : Reading) (s d out : List ℕ) (at put : ℕ) (st : State) (frames : ℕ) : Type 0 where
+pub record Going (from : Reading) (s d out : List ℕ) (at put : ℕ) (st : State) (frames : ℕ) (b : Bins) : Type 0 where
   pub inside : at ≤ length s
   pub long : length out ≡ length d
   pub same : ending (readFrom from s) ≡ ending (scanFrom (from .tell) (drop at s) (from .at + at) frames st)
-  pub text : over d 0 (linesOf (readFrom from s .told)) ≡ over out put (linesOf (scanFrom (from .tell) (drop at s) (from .at + at) frames st .told))
-  pub place : length (linesOf (readFrom from s .told)) ≡ put + length (linesOf (scanFrom (from .tell) (drop at s) (from .at + at) frames st .told))
-  pub room : 4 * put ≤ 926 * at
+  pub text : over d 0 (linesOf (from .office) (from .bins) (readFrom from s .told)) ≡ over out put (linesOf (from .office) b (scanFrom (from .tell) (drop at s) (from .at + at) frames st .told))
+  pub place : length (linesOf (from .office) (from .bins) (readFrom from s .told)) ≡ put + length (linesOf (from .office) b (scanFrom (from .tell) (drop at s) (from .at + at) frames st .told))
+  pub left : openOver (from .bins) (readFrom from s .told) ≡ openOver b (scanFrom (from .tell) (drop at s) (from .at + at) frames st .told)
+  pub room : 4 * put ≤ 928 * at
   pub counted : Counted (from .at + at) frames st
 
-pub going-start : (from : Reading) (s d : List ℕ) → Sound from → Going from s d d 0 0 (from .state) (from .frames)
+pub going-start : (from : Reading) (s d : List ℕ) → Sound from → Going from s d d 0 0 (from .state) (from .frames) (from .bins)
 going-start from s d h =
     let z : from .at + 0 ≡ from .at = add-zero (from .at) in
-    record { inside = omega arith; long = refl; same = rw z; text = rw z; place = rw z (omega arith); room = omega arith; counted = rw z h }
+    record { inside = omega arith; long = refl; same = rw z; text = rw z; place = rw z (omega arith); left = rw z; room = omega arith; counted = rw z h }
 
-module _ (from : Reading) (s d out : List ℕ) (at put : ℕ) (st : State) (frames : ℕ) (g : Going from s d out at put st frames) (r : Run) (e : r ≡ runOf (from .tell) s at 0 st) where
+module _ (from : Reading) (s d out : List ℕ) (at put : ℕ) (st : State) (frames : ℕ) (b : Bins) (g : Going from s d out at put st frames b) (r : Run) (e : r ≡ runOf (from .tell) s at 0 st) where
   left-is : scanFrom (from .tell) (drop at s) (from .at + at) frames st ≡ scanAfter (from .tell) (from .at) frames st s r
   left-is =
       ap (λ (n : ℕ). scanFrom (from .tell) (drop at s) (from .at + at) n st) (sym (add-zero frames))
@@ -118,11 +120,12 @@ module _ (from : Reading) (s d out : List ℕ) (at put : ℕ) (st : State) (fram
 
   -- something was told, and its line put
   going-line : (note : Note) (p : ℕ) (out₂ : List ℕ) → scanAfter (from .tell) (from .at) frames st s r ≡ before (note ∷ []) (onFrom (from .tell) (from .at) frames s r)
-      → put ≤ length out → 4 * p ≤ 926 * r .at → p ≡ put + length (lineFor note) → out₂ ≡ over out put (lineFor note) → length out₂ ≡ length out
-      → Going from s d out₂ (r .at) p (r .state) (frames + r .frames)
-  unfolding linesOf
+      → put ≤ length out → 4 * p ≤ 928 * r .at → p ≡ put + length (lineBy (from .office) b note) → out₂ ≡ over out put (lineBy (from .office) b note) → length out₂ ≡ length out
+      → Going from s d out₂ (r .at) p (r .state) (frames + r .frames) (openAfter b note)
+  unfolding linesOf openOver
   going-line note p out₂ told roomy room ep eo el =
-      let l : List ℕ = lineFor note in
+      let l : List ℕ = lineBy (from .office) b note in
+      let m : List ℕ = linesOf (from .office) (openAfter b note) (onFrom (from .tell) (from .at) frames s r .told) in
       let q : Scan = onFrom (from .tell) (from .at) frames s r in
       let w : scanFrom (from .tell) (drop at s) (from .at + at) frames st ≡ before (note ∷ []) q = left-is ∙ told in
       record {
@@ -130,59 +133,64 @@ module _ (from : Reading) (s d out : List ℕ) (at put : ℕ) (st : State) (fram
         long = el ∙ g .long;
         same = g .same ∙ ap ending w;
         text =
-            g .text ∙ ap (λ (c : Scan). over out put (linesOf (c .told))) w
-            ∙ sym (over-over out put p l (linesOf (q .told)) roomy ep)
-            ∙ ap (λ (o : List ℕ). over o p (linesOf (q .told))) (sym eo);
+            g .text ∙ ap (λ (c : Scan). over out put (linesOf (from .office) b (c .told))) w
+            ∙ sym (over-over out put p l m roomy ep)
+            ∙ ap (λ (o : List ℕ). over o p m) (sym eo);
         place =
-            let x : length (l ++ linesOf (q .told)) ≡ length l + length (linesOf (q .told)) = length-append l (linesOf (q .told)) in
-            omega (arith, g .place ∙ ap (λ (c : Scan). put + length (linesOf (c .told))) w, x, ep);
+            let x : length (l ++ m) ≡ length l + length m = length-append l m in
+            omega (arith, g .place ∙ ap (λ (c : Scan). put + length (linesOf (from .office) b (c .told))) w, x, ep);
+        left = g .left ∙ ap (λ (c : Scan). openOver b (c .told)) w;
         room = room;
         counted = run-sound;
       }
 
   -- of k bytes at least, and the line has its room
   pub going-on : (note : Note) (room k p : ℕ) (out₂ : List ℕ) → scanAfter (from .tell) (from .at) frames st s r ≡ before (note ∷ []) (onFrom (from .tell) (from .at) frames s r)
-      → at + k ≤ r .at → 4 * room ≤ 926 * k → length s ≤ 4096 → 949238 ≤ length d
-      → p ≡ put + length (fitted (length out) put room (lineFor note)) → p ≤ put + room → out₂ ≡ over out put (fitted (length out) put room (lineFor note)) → length out₂ ≡ length out
-      → Going from s d out₂ (r .at) p (r .state) (frames + r .frames)
+      → at + k ≤ r .at → 4 * room ≤ 928 * k → length s ≤ 4096 → 952216 ≤ length d
+      → p ≡ put + length (fitted (length out) put room (lineBy (from .office) b note)) → p ≤ put + room → out₂ ≡ over out put (fitted (length out) put room (lineBy (from .office) b note)) → length out₂ ≡ length out
+      → Going from s d out₂ (r .at) p (r .state) (frames + r .frames) (openAfter b note)
   going-on note room k p out₂ told on little short big ep few eo el =
       let h = run-stands in
       let roomy : put + room ≤ length out = omega (arith, g .room, g .long, h .inside) in
-      let f : fitted (length out) put room (lineFor note) ≡ lineFor note = fitted-is (length out) put room (lineFor note) roomy in
+      let f : fitted (length out) put room (lineBy (from .office) b note) ≡ lineBy (from .office) b note = fitted-is (length out) put room (lineBy (from .office) b note) roomy in
       going-line note p out₂ told (omega arith) (omega (arith, g .room, few)) (ep ∙ ap (λ (v : List ℕ). put + length v) f) (eo ∙ ap (over out put) f) el
 
   -- whose line is empty
   going-quiet : (note : Note) (room p : ℕ) (out₂ : List ℕ) → scanAfter (from .tell) (from .at) frames st s r ≡ before (note ∷ []) (onFrom (from .tell) (from .at) frames s r)
-      → lineFor note ≡ [] → length s ≤ 4096 → 949238 ≤ length d
-      → p ≡ put + length (fitted (length out) put room (lineFor note)) → out₂ ≡ over out put (fitted (length out) put room (lineFor note)) → length out₂ ≡ length out
-      → Going from s d out₂ (r .at) p (r .state) (frames + r .frames)
+      → lineBy (from .office) b note ≡ [] → length s ≤ 4096 → 952216 ≤ length d
+      → p ≡ put + length (fitted (length out) put room (lineBy (from .office) b note)) → out₂ ≡ over out put (fitted (length out) put room (lineBy (from .office) b note)) → length out₂ ≡ length out
+      → Going from s d out₂ (r .at) p (r .state) (frames + r .frames) (openAfter b note)
   unfolding fitted
   going-quiet note room p out₂ told none short big ep eo el =
       let h = run-stands in
-      let f : fitted (length out) put room (lineFor note) ≡ lineFor note = rw none (by-cond (λ (l : List ℕ). l ≡ []) (leb room (length out - put)) (λ _. refl) (λ _. refl)) in
-      let ep' : p ≡ put + length (lineFor note) = ep ∙ ap (λ (v : List ℕ). put + length v) f in
-      let zero : length (lineFor note) ≡ 0 = ap length none in
+      let f : fitted (length out) put room (lineBy (from .office) b note) ≡ lineBy (from .office) b note = rw none (by-cond (λ (l : List ℕ). l ≡ []) (leb room (length out - put)) (λ _. refl) (λ _. refl)) in
+      let ep' : p ≡ put + length (lineBy (from .office) b note) = ep ∙ ap (λ (v : List ℕ). put + length v) f in
+      let zero : length (lineBy (from .office) b note) ≡ 0 = ap length none in
       going-line note p out₂ told (omega (arith, g .room, g .long, h .inside, h .later)) (omega (arith, ep', zero, g .room, h .later)) ep' (eo ∙ ap (over out put) f) el
 
   -- a second was reported
-  pub going-reported : (p : ℕ) (out₂ : List ℕ) → r .stop ≡ stop.Reported → length s ≤ 4096 → 949238 ≤ length d
-      → p ≡ put + length (fitted (length out) put 926 (lineFor (second (lastListed (r .state))))) → p ≤ put + 926
-      → out₂ ≡ over out put (fitted (length out) put 926 (lineFor (second (lastListed (r .state))))) → length out₂ ≡ length out
-      → Going from s d out₂ (r .at) p (r .state) (frames + r .frames)
+  pub going-reported : (p : ℕ) (out₂ : List ℕ) → r .stop ≡ stop.Reported → length s ≤ 4096 → 952216 ≤ length d
+      → p ≡ put + length (fitted (length out) put 928 (reportedText (from .office) b (r .state))) → p ≤ put + 928
+      → out₂ ≡ over out put (fitted (length out) put 928 (reportedText (from .office) b (r .state))) → length out₂ ≡ length out
+      → Going from s d out₂ (r .at) p (r .state) (frames + r .frames) (openedBy b (r .state))
   going-reported p out₂ c short big ep few eo el =
-      going-on (second (lastListed (r .state))) 926 4 p out₂ (after-reported (from .tell) (from .at) frames st s r c) (run-stands .further c) (omega arith) short big ep few eo el
+      let t = sym (reported-by b (r .state) (run-sound .figures) (from .office)) in
+      subst (λ (x : Bins). Going from s d out₂ (r .at) p (r .state) (frames + r .frames) x) (opened-by b (r .state) (run-sound .figures))
+      (going-on (second (lastListed (r .state))) 928 4 p out₂ (after-reported (from .tell) (from .at) frames st s r c) (run-stands .further c) (omega arith) short big
+      (ep ∙ ap (λ (v : List ℕ). put + length (fitted (length out) put 928 v)) t) few (eo ∙ ap (λ (v : List ℕ). over out put (fitted (length out) put 928 v)) t) el)
 
   -- a record was told
-  pub going-told : (p : ℕ) (out₂ : List ℕ) → r .stop ≡ stop.Told → length s ≤ 4096 → 949238 ≤ length d
+  pub going-told : (p : ℕ) (out₂ : List ℕ) → r .stop ≡ stop.Told → length s ≤ 4096 → 952216 ≤ length d
       → p ≡ put + length (fitted (length out) put 2560 (lineFor (change (frames + r .frames) st (r .state)))) → p ≤ put + 2560
       → out₂ ≡ over out put (fitted (length out) put 2560 (lineFor (change (frames + r .frames) st (r .state)))) → length out₂ ≡ length out
-      → Going from s d out₂ (r .at) p (r .state) (frames + r .frames)
+      → Going from s d out₂ (r .at) p (r .state) (frames + r .frames) b
+  unfolding lineBy openAfter
   going-told p out₂ c short big ep few eo el = by (rw e (told-quiet s (from .tell) at 0 st (ap (λ (x : Run). x .stop) (sym e) ∙ c)))
     where
       told : scanAfter (from .tell) (from .at) frames st s r ≡ before (change (frames + r .frames) st (r .state) ∷ []) (onFrom (from .tell) (from .at) frames s r)
       told = after-told (from .tell) (from .at) frames st s r c
 
-      by : Quiet at (r .at) st (r .state) → Going from s d out₂ (r .at) p (r .state) (frames + r .frames)
+      by : Quiet at (r .at) st (r .state) → Going from s d out₂ (r .at) p (r .state) (frames + r .frames) b
       by (wide far) = going-on (change (frames + r .frames) st (r .state)) 2560 44 p out₂ told far (omega arith) short big ep few eo el
       by (marked is) =
           going-quiet (change (frames + r .frames) st (r .state)) 2560 p out₂ told (ap (λ (u : State). lineFor (change (frames + r .frames) st u)) is ∙ mark-untold (frames + r .frames) st) short big ep eo el
@@ -206,23 +214,40 @@ module _ (from : Reading) (s d out : List ℕ) (at put : ℕ) (st : State) (fram
 
   -- there are no more records, or one was refused
   pub going-end : (refusal offset : ℕ) → scanAfter (from .tell) (from .at) frames st s r ≡ stopped (r .state) (from .at + offset) (frames + r .frames) refusal (drop offset s)
-      → (record { reading = record { tell = from .tell; state = r .state; at = from .at + offset; frames = frames + r .frames }; used = offset; put = put; refusal = refusal } ≡ gatheredOf from s)
-      × (out ≡ over d 0 (linesOf (readFrom from s .told)))
-  unfolding linesOf
+      → (record {
+        reading = record { tell = from .tell; office = from .office; state = r .state; at = from .at + offset; frames = frames + r .frames; bins = b };
+        used = offset;
+        put = put;
+        refusal = refusal;
+      } ≡ gatheredOf from s)
+      × (out ≡ over d 0 (linesOf (from .office) (from .bins) (readFrom from s .told)))
+  unfolding linesOf openOver
   going-end refusal offset z =
       let w = left-is ∙ z in
       let k : ending (readFrom from s) ≡ stopped (r .state) (from .at + offset) (frames + r .frames) refusal (drop offset s) = g .same ∙ ap ending w in
-      let p : length (linesOf (readFrom from s .told)) ≡ put = g .place ∙ ap (λ (c : Scan). put + length (linesOf (c .told))) w ∙ add-zero put in
+      let p : length (linesOf (from .office) (from .bins) (readFrom from s .told)) ≡ put = g .place ∙ ap (λ (c : Scan). put + length (linesOf (from .office) b (c .told))) w ∙ add-zero put in
+      let o : openOver (from .bins) (readFrom from s .told) ≡ b = g .left ∙ ap (λ (c : Scan). openOver b (c .told)) w in
       let u : from .at + offset - from .at ≡ offset = add-sub-cancel-left (from .at) offset in (
         sym
-            (ap (λ (n : ℕ). packed (ending (readFrom from s)) n) p
-            ∙ ap (λ (c : Scan). packed c put) k
+            (ap (λ (n : ℕ). packed (ending (readFrom from s)) n (openOver (from .bins) (readFrom from s .told))) p
+            ∙ ap (packed (ending (readFrom from s)) put) o
+            ∙ ap (λ (c : Scan). packed c put b) k
             ∙ ap (λ (n : ℕ). packed-at n) u),
-        over-nil out put ∙ sym (g .text ∙ ap (λ (c : Scan). over out put (linesOf (c .told))) w),
+        over-nil out put ∙ sym (g .text ∙ ap (λ (c : Scan). over out put (linesOf (from .office) b (c .told))) w),
       )
     where
-      packed : Scan → ℕ → Gathered
-      packed c n = record { reading = readingOf (from .tell) c; used = c .at - from .at; put = n; refusal = c .refusal }
+      packed : Scan → ℕ → Bins → Gathered
+      packed c n x = record {
+        reading = record { tell = from .tell; office = from .office; state = c .state; at = c .at; frames = c .frames; bins = x };
+        used = c .at - from .at;
+        put = n;
+        refusal = c .refusal;
+      }
 
       packed-at : ℕ → Gathered
-      packed-at n = record { reading = record { tell = from .tell; state = r .state; at = from .at + offset; frames = frames + r .frames }; used = n; put = put; refusal = refusal }
+      packed-at n = record {
+        reading = record { tell = from .tell; office = from .office; state = r .state; at = from .at + offset; frames = frames + r .frames; bins = b };
+        used = n;
+        put = put;
+        refusal = refusal;
+      }

@@ -13,24 +13,25 @@ use Rattle.listing.proofs.Overs.{then, fitted-is}
 use Rattle.stream.specs.Stream.{Note, Scan, before, scanFrom, goesOn, resume, onward, together}
 use Rattle.stream.proofs.Streams.{scan-append}
 use Rattle.stream.proofs.Counts.{start-counted, Comes, comes}
-use Rattle.reading.specs.Listing.{linesOf, tailOf, textOf, printedOf}
-use Rattle.lines.specs.Line.{endingOf}
+use Rattle.bins.specs.declared.Bins.{Bins}
+use Rattle.reading.specs.Listing.{tailOf, textOf, printedOf}
+use Rattle.lines.specs.Line.{openAfter, linesOf, openOver, endingOf}
 use Rattle.reading.specs.Turn.{readingOf, readFrom, startReading, Sound, writtenOf, turnOf, toCome, TurnLaw, outputOf, InPieces}
 use Rattle.reading.specs.declared.Reading.{Reading}
 use Rattle.reading.proofs.Lines.{Gathered, gatheredOf}
 use Rattle.reading.specs.declared.Turned.{Turned}
 
 -- the last lines, where there is room for them
-pub ending-put : (d : List ℕ) (at r : ℕ) (o v : List ℕ) → at + 1014 ≤ length d → r ≡ at + length (fitted (length d) at 1014 v) → o ≡ over d at (fitted (length d) at 1014 v)
+pub ending-put : (d : List ℕ) (at r : ℕ) (o v : List ℕ) → at + 1944 ≤ length d → r ≡ at + length (fitted (length d) at 1944 v) → o ≡ over d at (fitted (length d) at 1944 v)
     → (r ≡ at + length v) × (o ≡ over d at v)
 ending-put d at r o v h e t =
-    let f : fitted (length d) at 1014 v ≡ v = fitted-is (length d) at 1014 v h in
+    let f : fitted (length d) at 1944 v ≡ v = fitted-is (length d) at 1944 v h in
     (e ∙ ap (λ (w : List ℕ). at + length w) f, t ∙ ap (over d at) f)
 
 -- what `turn` answers
-module _ (from : Reading) (s : List ℕ) (ended : Bool) (d o : List ℕ) (text : o ≡ over d 0 (linesOf (readFrom from s .told))) where
+module _ (from : Reading) (s : List ℕ) (ended : Bool) (d o : List ℕ) (text : o ≡ over d 0 (linesOf (from .office) (from .bins) (readFrom from s .told))) where
   abbrev endOf : Gathered → Bool → List ℕ
-  endOf g more = endingOf (ended || not more) (g .reading .state) (g .refusal) (g .reading .at) (g .reading .frames)
+  endOf g more = endingOf (ended || not more) (from .office) (g .reading .bins) (g .reading .state) (g .refusal) (g .reading .at) (g .reading .frames)
 
   abbrev Turns : Gathered → Bool → Type 0
   Turns g more = (p : ℕ) (o₂ : List ℕ) → p ≡ g .put + length (endOf g more) → o₂ ≡ over o (g .put) (endOf g more)
@@ -40,7 +41,7 @@ module _ (from : Reading) (s : List ℕ) (ended : Bool) (d o : List ℕ) (text :
   unfolding turnOf writtenOf
   turns p o₂ ep eo =
       let c : Scan = readFrom from s in
-      let l : List ℕ = linesOf (c .told) in
+      let l : List ℕ = linesOf (from .office) (from .bins) (c .told) in
       let t : List ℕ = endOf (gatheredOf from s) (goesOn (c .refusal)) in
       let k : length (l ++ t) ≡ p = length-append l t ∙ sym ep in
       rw k (refl, then d 0 (length l) l t o o₂ (omega arith) (omega arith) text eo)
@@ -48,14 +49,19 @@ module _ (from : Reading) (s : List ℕ) (ended : Bool) (d o : List ℕ) (text :
   pub turned : (g : Gathered) → g ≡ gatheredOf from s → (more : Bool) → more ≡ goesOn (g .refusal) → Turns g more
   turned g e = subst⁻¹ (λ (g : Gathered). (more : Bool) → more ≡ goesOn (g .refusal) → Turns g more) e (λ more m. subst⁻¹ (Turns (gatheredOf from s)) m turns)
 
-lines-append : (a b : List Note) → linesOf (a ++ b) ≡ linesOf a ++ linesOf b
-unfolding linesOf
-lines-append [] b = refl
-lines-append (n ∷ a) b = rw (lines-append a b, append-assoc)
+pub open-append : (b : Bins) (k l : List Note) → openOver b (k ++ l) ≡ openOver (openOver b k) l
+unfolding openOver
+open-append b [] l = refl
+open-append b (n ∷ k) l = open-append (openAfter b n) k l
+
+pub lines-append : (office : Bool) (b : Bins) (k l : List Note) → linesOf office b (k ++ l) ≡ linesOf office b k ++ linesOf office (openOver b k) l
+unfolding linesOf openOver
+lines-append office b [] l = refl
+lines-append office b (n ∷ k) l = rw (lines-append office (openAfter b n) k l, append-assoc)
 
 -- the text of a scan that follows what was told
-text-before : (l : List Note) (c : Scan) → textOf (before l c) ≡ linesOf l ++ textOf c
-text-before l c = rw (lines-append l (c .told), append-assoc)
+text-before : (office : Bool) (b : Bins) (l : List Note) (c : Scan) → textOf office b (before l c) ≡ linesOf office b l ++ textOf office (openOver b l) c
+text-before office b l c = rw (lines-append office b l (c .told), open-append b l (c .told), append-assoc)
 
 -- The law of a turn.
 module _ (r : Reading) (s : List ℕ) (h : Sound r) where
@@ -63,11 +69,12 @@ module _ (r : Reading) (s : List ℕ) (h : Sound r) where
   k = comes (r .tell) s (r .at) (r .frames) (r .state) h
 
   more-by : (b : Bool) (ys : List ℕ) → goesOn (readFrom r s .refusal) ≡ b
-      → toCome r (s ++ ys) ≡ linesOf (readFrom r s .told) ++ cond (not b) (tailOf (readFrom r s)) [] ++ cond (not b) [] (toCome (readingOf (r .tell) (readFrom r s)) (drop (readFrom r s .at - r .at) s ++ ys))
+      → toCome r (s ++ ys) ≡ linesOf (r .office) (r .bins) (readFrom r s .told) ++ cond (not b) (tailOf (r .office) (openOver (r .bins) (readFrom r s .told)) (readFrom r s)) []
+      ++ cond (not b) [] (toCome (readingOf r (readFrom r s)) (drop (readFrom r s .at - r .at) s ++ ys))
   unfolding resume
   more-by true ys e =
-      rw (scan-append (r .tell) s ys (r .at) (r .frames) (r .state), e, append-nil, text-before (readFrom r s .told) (onward (r .tell) (readFrom r s) ys))
-      (ap (λ (z : List ℕ). linesOf (readFrom r s .told) ++ textOf (scanFrom (r .tell) (z ++ ys) (readFrom r s .at) (readFrom r s .frames) (readFrom r s .state))) (k .rest))
+      rw (scan-append (r .tell) s ys (r .at) (r .frames) (r .state), e, append-nil, text-before (r .office) (r .bins) (readFrom r s .told) (onward (r .tell) (readFrom r s) ys))
+      (ap (λ (z : List ℕ). linesOf (r .office) (r .bins) (readFrom r s .told) ++ textOf (r .office) (openOver (r .bins) (readFrom r s .told)) (scanFrom (r .tell) (z ++ ys) (readFrom r s .at) (readFrom r s .frames) (readFrom r s .state))) (k .rest))
   more-by false ys e = rw (scan-append (r .tell) s ys (r .at) (r .frames) (r .state), e, append-nil)
 
   pub turn-law : TurnLaw r s
@@ -119,6 +126,6 @@ pieces-from r kept (p ∷ ps) h =
     ap (λ (z : List ℕ). writtenOf r s false ++ cond (t .done) [] z) (pieces-from (t .reading) (drop (t .used) s) ps (turn-sound r s h false))
     ∙ sym (turn-law r s h .more (together ps)) ∙ ap (toCome r) (append-assoc kept p (together ps))
 
-pub in-pieces : (tell : Bool) (ps : List (List ℕ)) → InPieces tell ps
+pub in-pieces : (tell office : Bool) (ps : List (List ℕ)) → InPieces tell office ps
 unfolding printedOf
-in-pieces tell ps = pieces-from (startReading tell) [] ps start-counted
+in-pieces tell office ps = pieces-from (startReading tell office) [] ps start-counted

@@ -1,32 +1,33 @@
 -- What the programs print of a trace: from the bytes of the whole input to the bytes of the whole output (document 01, "Trace records and the
--- listing"; document 02, K3). Assumes nothing.
+-- listing"; document 02, K3, K6). Assumes nothing.
 use Prim.Native.Nat.{ℕ}
 use mathlib.Core.Bool.{Bool, true, false}
-use mathlib.Core.List.{List, [], _∷_, _++_}
-use Rattle.lines.specs.Line.{lineFor, lastLines}
-use Rattle.stream.specs.Stream.{Note, Scan, scanOf}
+use mathlib.Core.List.{List, _++_}
+use Rattle.bins.specs.Bins.{noBins}
+use Rattle.bins.specs.declared.Bins.{Bins}
+use Rattle.lines.specs.Line.{linesOf, openOver, lastLines}
+use Rattle.stream.specs.Stream.{Scan, scanOf}
 
--- the lines of all that is told
-unfoldable pub linesOf : List Note → List ℕ
-linesOf [] = []
-linesOf (n ∷ ns) = lineFor n ++ linesOf ns
+-- the lines of a scan's end: the pending second, if there is one, or for the office what is open, the refusal, if there is one, and what was accepted
+abbrev pub tailOf : Bool → Bins → Scan → List ℕ
+tailOf office b c = lastLines office b (c .state) (c .refusal) (c .at) (c .frames)
 
--- those of a scan's end: the pending second, if there is one, the refusal, if there is one, and what was accepted
-abbrev pub tailOf : Scan → List ℕ
-tailOf c = lastLines (c .state) (c .refusal) (c .at) (c .frames)
-
--- the text of what a scan has come to
-abbrev pub textOf : Scan → List ℕ
-textOf c = linesOf (c .told) ++ tailOf c
+-- the text of what a scan has come to, b being open before it
+abbrev pub textOf : Bool → Bins → Scan → List ℕ
+textOf office b c = linesOf office b (c .told) ++ tailOf office (openOver b (c .told)) c
 
 -- what is printed of a trace
-unfoldable pub printedOf : Bool → List ℕ → List ℕ
-printedOf tell xs = textOf (scanOf tell xs)
+unfoldable pub printedOf : Bool → Bool → List ℕ → List ℕ
+printedOf tell office xs = textOf office noBins (scanOf tell xs)
 
 -- the listing of a trace: its seconds are told
 abbrev pub listingOf : List ℕ → List ℕ
-listingOf xs = printedOf false xs
+listingOf xs = printedOf false false xs
 
 -- its explanation: every record is told
 abbrev pub explanationOf : List ℕ → List ℕ
-explanationOf xs = printedOf true xs
+explanationOf xs = printedOf true false xs
+
+-- its quarter-hours and days
+abbrev pub quartersOf : List ℕ → List ℕ
+quartersOf xs = printedOf false true xs

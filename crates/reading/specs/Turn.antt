@@ -10,7 +10,9 @@ use Rattle.answer.specs.Over.{over}
 use Rattle.trace.specs.Scan.{startOf}
 use Rattle.stream.specs.Stream.{Scan, scanFrom, goesOn, together}
 use Rattle.stream.specs.Counts.{Counted}
-use Rattle.reading.specs.Listing.{linesOf, tailOf, textOf, printedOf}
+use Rattle.bins.specs.Bins.{noBins}
+use Rattle.lines.specs.Line.{linesOf, openOver}
+use Rattle.reading.specs.Listing.{tailOf, textOf, printedOf}
 use Rattle.reading.specs.declared.Reading.{Reading}
 use Rattle.reading.specs.declared.Halt.{Halt}
 use Rattle.trace.specs.declared.Stop.{Stop}
@@ -19,19 +21,19 @@ use Rattle.reading.specs.declared.Turned.{Turned}
 use Rattle.reading.specs.declared.Refilled.{Refilled}
 
 -- where a scan stands, for the next piece
-abbrev pub readingOf : Bool → Scan → Reading
-readingOf tell c = record { tell = tell; state = c .state; at = c .at; frames = c .frames }
+abbrev pub readingOf : Reading → Scan → Reading
+readingOf r c = record { tell = r .tell; office = r .office; state = c .state; at = c .at; frames = c .frames; bins = openOver (r .bins) (c .told) }
 
 -- what a reading comes to with bytes that follow it, and its scan as the program knows it
 abbrev pub readFrom : Reading → List ℕ → Scan
 readFrom r xs = scanFrom (r .tell) xs (r .at) (r .frames) (r .state)
 
-abbrev pub startReading : Bool → Reading
-startReading tell = record { tell = tell; state = startOf; at = 0; frames = 0 }
+abbrev pub startReading : Bool → Bool → Reading
+startReading tell office = record { tell = tell; office = office; state = startOf; at = 0; frames = 0; bins = noBins }
 
 -- before the first refill nothing is kept
-abbrev pub startRefilled : Bool → Refilled
-startRefilled tell = record { reading = startReading tell; held = 0; ended = false }
+abbrev pub startRefilled : Bool → Bool → Refilled
+startRefilled tell office = record { reading = startReading tell office; held = 0; ended = false }
 
 -- its offset and its count of frames are within what a trace can hold
 abbrev pub Sound : Reading → Type 0
@@ -52,17 +54,17 @@ doneOf c ended = ended || not (goesOn (c .refusal))
 unfoldable pub writtenOf : Reading → List ℕ → Bool → List ℕ
 writtenOf r s ended =
     let c : Scan = readFrom r s in
-    linesOf (c .told) ++ cond (doneOf c ended) (tailOf c) []
+    linesOf (r .office) (r .bins) (c .told) ++ cond (doneOf c ended) (tailOf (r .office) (openOver (r .bins) (c .told)) c) []
 
 -- and what goes on from there
 unfoldable pub turnOf : Reading → List ℕ → Bool → Turned
 turnOf r s ended =
     let c : Scan = readFrom r s in
-    record { reading = readingOf (r .tell) c; used = c .at - r .at; put = length (writtenOf r s ended); done = doneOf c ended }
+    record { reading = readingOf r c; used = c .at - r .at; put = length (writtenOf r s ended); done = doneOf c ended }
 
 -- what is still to be written, xs being all bytes that are not used yet
 abbrev pub toCome : Reading → List ℕ → List ℕ
-toCome r xs = textOf (readFrom r xs)
+toCome r xs = textOf (r .office) (r .bins) (readFrom r xs)
 
 -- The law of a turn. With more to come, whatever it is: what was to come is what is written now, and then what is to come of the bytes not
 -- used. At the end: what was to come is what is written now.
@@ -79,8 +81,8 @@ outputOf r kept (p ∷ ps) =
     writtenOf r (kept ++ p) false ++ cond (t .done) [] (outputOf (t .reading) (drop (t .used) (kept ++ p)) ps)
 
 -- The law of reading in pieces: however the input is cut, what is written is what is printed of the whole.
-abbrev pub InPieces : Bool → List (List ℕ) → Type 0
-InPieces tell ps = outputOf (startReading tell) [] ps ≡ printedOf tell (together ps)
+abbrev pub InPieces : Bool → Bool → List (List ℕ) → Type 0
+InPieces tell office ps = outputOf (startReading tell office) [] ps ≡ printedOf tell office (together ps)
 
 -- A refill, that found `held` kept bytes at the start of `buf` and left `buf'`, and `out'` where `out` was: there is a piece, which is what
 -- `read` put there (empty at the end of the input), and the rest is a turn over the kept bytes and that piece, with what is to be written at the

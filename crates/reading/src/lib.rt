@@ -1,5 +1,6 @@
-// Reads a trace from standard input through a buffer of 4,096 bytes and writes what it tells to standard output: the lines of its seconds, and
-// where every record is told a line for each frame at which anything changed.
+// Reads a trace from standard input through a buffer of 4,096 bytes and writes what it tells to standard output: the lines of its seconds, or for the network
+// office those of its quarter-hours and days; and where every record is told a line for each frame at which anything changed.
+use bins::Bins;
 use libc::STDIN_FILENO;
 use libc::STDOUT_FILENO;
 use trace::State;
@@ -11,13 +12,15 @@ ghost use Rattle.stream.specs.Stream.{goesOn};
 ghost use Rattle.answer.specs.Over.{over};
 ghost use Rattle.reading.specs.Turn.{Sound, startRefilled, haltOf, writtenOf, turnOf, Refill};
 
-// Where the reading stands between two pieces: whether every record is told, the scan's state, the offset of the next record, and the frames
-// accepted.
+// Where the reading stands between two pieces: whether every record is told, and whether it is for the office; the scan's state, the offset of the next record, the
+// frames accepted, and the open quarter-hour and day.
 struct Reading {
     tell: bool,
+    office: bool,
     state: State,
     at: u64,
     frames: u64,
+    bins: Bins,
 }
 
 // What the stop of a run says: whether it ends the turn, whether a record was told (or else a second reported), and the refusal (0: none).
@@ -91,13 +94,14 @@ fn goes_on(refusal: u8) -> bool
 fn turn(from: Reading, s: &[u8], ended: bool, out: &mut [u8]) -> Turned
     requires { ⌜ Sound from ⌝ }
     requires { ⌜ length (now s) ≤ 4096 ⌝ }
-    requires { ⌜ 949238 ≤ length (now out) ⌝ }
+    requires { ⌜ 952216 ≤ length (now out) ⌝ }
     ensures { λ r. ⌜ (r ≡ turnOf from (now (s .entry)) ended) × (now (out .exit) ≡ over (now (out .entry)) 0 (writtenOf from (now (s .entry)) ended)) ⌝ }
 {
     let mut at = 0;
     let mut put = 0;
     let mut state = from.state;
     let mut frames = from.frames;
+    let mut bins = from.bins;
     loop {
         let was = state;
         let r = trace::scan(from.tell, was, s, at);
@@ -110,13 +114,25 @@ fn turn(from: Reading, s: &[u8], ended: bool, out: &mut [u8]) -> Turned
             let more = goes_on(h.refusal);
             let done = ended | !more;
             let offset = from.at + wide(at);
-            let last = lines::last_lines(done, state, h.refusal, offset, frames, out, put);
+            let last = lines::last_lines(
+                done,
+                from.office,
+                bins,
+                state,
+                h.refusal,
+                offset,
+                frames,
+                out,
+                put,
+            );
             return Turned {
                 reading: Reading {
                     tell: from.tell,
+                    office: from.office,
                     state: state,
                     at: offset,
                     frames: frames,
+                    bins: bins,
                 },
                 used: at,
                 put: last,
@@ -126,7 +142,8 @@ fn turn(from: Reading, s: &[u8], ended: bool, out: &mut [u8]) -> Turned
         if h.told {
             put = lines::told_line(was, state, frames, out, put);
         } else {
-            put = lines::reported_line(state, out, put);
+            put = lines::reported_lines(from.office, bins, state, out, put);
+            bins = lines::open_after(bins, state);
         }
     }
 }
@@ -159,7 +176,7 @@ fn refill(from: Refilled, buf: &mut [u8], out: &mut [u8]) -> Refilled
     requires { ⌜ Sound (from .reading) ⌝ }
     requires { ⌜ from .held < 83 ⌝ }
     requires { ⌜ length (now buf) ≡ 4096 ⌝ }
-    requires { ⌜ 949238 ≤ length (now out) ⌝ }
+    requires { ⌜ 952216 ≤ length (now out) ⌝ }
     ensures { λ r. ⌜ Refill (from .reading) (from .held) (now (buf .entry)) (now (buf .exit)) (now (out .entry)) (now (out .exit)) r ⌝ }
 {
     let reading = from.reading;
@@ -181,16 +198,19 @@ fn refill(from: Refilled, buf: &mut [u8], out: &mut [u8]) -> Refilled
 }
 
 // Where a program starts.
-fn started(tell: bool) -> Refilled
-    ensures { λ r. ⌜ r ≡ startRefilled tell ⌝ }
+fn started(tell: bool, office: bool) -> Refilled
+    ensures { λ r. ⌜ r ≡ startRefilled tell office ⌝ }
 {
     let state = trace::start();
+    let bins = bins::no_bins();
     Refilled {
         reading: Reading {
             tell: tell,
+            office: office,
             state: state,
             at: 0,
             frames: 0,
+            bins: bins,
         },
         held: 0,
         ended: false,
@@ -199,11 +219,11 @@ fn started(tell: bool) -> Refilled
 
 // Refills until the output is whole. It ends for every input, however long: a trace has no more than 4,294,967,295 seconds of 400,000
 // frames.
-fn pump(tell: bool, buf: &mut [u8], out: &mut [u8])
+fn pump(tell: bool, office: bool, buf: &mut [u8], out: &mut [u8])
     requires { ⌜ length (now buf) ≡ 4096 ⌝ }
-    requires { ⌜ 949238 ≤ length (now out) ⌝ }
+    requires { ⌜ 952216 ≤ length (now out) ⌝ }
 {
-    let mut r = started(tell);
+    let mut r = started(tell, office);
     let mut ended = false;
     while !ended {
         r = refill(r, buf, out);
@@ -218,9 +238,9 @@ fn text_buffer() -> [u8; 1048576]
     [0; 1048576]
 }
 
-// A program from its start to its end: `ledger` tells the seconds, `explain` every record.
-pub fn run(tell: bool) {
+// A program from its start to its end: `ledger` tells the seconds, `explain` every record, `quarters` is for the office.
+pub fn run(tell: bool, office: bool) {
     let mut buf = [0u8; 4096];
     let mut out = text_buffer();
-    pump(tell, &mut buf, &mut out);
+    pump(tell, office, &mut buf, &mut out);
 }

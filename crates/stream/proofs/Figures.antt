@@ -289,7 +289,7 @@ read-first tell k r body t later on f i =
       frames = omega (arith, i .frames, f .none-sent);
     })
 
-read : (tell : Bool) (xs : List ℕ) → Read tell (kindIn xs) (settingsIn xs) (toldFirst tell xs) (callsOf xs) (scanOf tell xs)
+pub read : (tell : Bool) (xs : List ℕ) → Read tell (kindIn xs) (settingsIn xs) (toldFirst tell xs) (callsOf xs) (scanOf tell xs)
 unfolding scanOver callsOver kindOver recordsFrom
 read tell [] = rw nothing-first (read-none tell 0 (settingsIn []) 0 [])
 read tell (y ∷ ys) = by (eqb (takenOf startOf (y ∷ ys) .refusal) 0) refl

@@ -13,7 +13,7 @@ use Rattle.answer.specs.Answer.{NoAnswer}
 use Rattle.answer.specs.Over.{over}
 use Rattle.codec.specs.Over.{laid}
 use Rattle.filter.specs.Filter.{upOf}
-use Rattle.words.specs.Words.{flat, wordsOf, wordsIn, countedIn}
+use Rattle.words.specs.Words.{flat, wordsOf, wordsIn, countedIn, flat8, numbersOf, numbersIn}
 use Rattle.words.specs.Ranges.{inside}
 use Rattle.words.proofs.word_of.Kinds as word-of-kinds
 use Rattle.words.proofs.word_of.Reads as word-of-reads
@@ -21,6 +21,12 @@ use Rattle.words.proofs.words_in.Kinds as words-in-kinds
 use Rattle.words.proofs.words_in.Reads as words-in-reads
 use Rattle.words.proofs.figures_in.Kinds as figures-in-kinds
 use Rattle.words.proofs.figures_in.Reads as figures-in-reads
+use Rattle.words.proofs.twenty_in.Kinds as twenty-in-kinds
+use Rattle.words.proofs.twenty_in.Reads as twenty-in-reads
+use Rattle.words.proofs.numbers_in.Kinds as numbers-in-kinds
+use Rattle.words.proofs.numbers_in.Reads as numbers-in-reads
+use Rattle.words.proofs.bytes_of.Kinds as bytes-of-kinds
+use Rattle.words.proofs.bytes_of.Reads as bytes-of-reads
 use Rattle.words.proofs.numbered_record.Kinds as numbered-record-kinds
 use Rattle.words.proofs.numbered_record.Reads as numbered-record-reads
 use Rattle.words.proofs.lay_words.Kinds as lay-words-kinds
@@ -101,4 +107,30 @@ unfolding countedIn laid over upOf
 counted-beyond κs a s b i n end e =
     let h : now (s .0) ≡ countedIn (7 ∷ replicate 3 0) 0 7 = rw (b, i, n) at e in
     let z : _≡_ {A = ℕ} 8 7 = sym end ∙ ap (λ (l : List ℕ). getD l 0 0) h in
+    omega arith
+
+-- twenty_in: with no room for all of them none is read
+pub twenty-in-part : (κs : Lfts 1) (a : Dens κs twenty-in-kinds.ps) (x : List ℕ) (s : AtExit (endedOf 1 twenty-in-kinds.ps twenty-in-kinds.r) κs)
+    → now (a .0) ≡ replicate 79 1 → a .1 .0 ≡ 0 → getD x 0 0 ≡ 16843009 → twenty-in-reads.Post κs a x s → ⊥
+unfolding wordsIn
+twenty-in-part κs a x s b at w e =
+    let h : x ≡ wordsIn 20 0 (replicate 79 1) = rw (b, at) at e in
+    let z : _≡_ {A = ℕ} 16843009 0 = sym w ∙ ap (λ (l : List ℕ). getD l 0 0) h in
+    omega arith
+
+-- numbers_in: the fifth byte of a number counts 2 ^ 32
+pub low-word-alone : (κs : Lfts 1) (a : Dens κs numbers-in-kinds.ps) (x : List ℕ) (s : AtExit (endedOf 1 numbers-in-kinds.ps numbers-in-kinds.r) κs)
+    → now (a .0) ≡ 0 ∷ 0 ∷ 0 ∷ 0 ∷ 1 ∷ replicate 163 0 → getD x 0 0 ≡ 0 → numbers-in-reads.Post κs a x s → ⊥
+unfolding numbersIn numbersOf
+low-word-alone κs a x s b w e =
+    let h : x ≡ numbersIn 21 (0 ∷ 0 ∷ 0 ∷ 0 ∷ 1 ∷ replicate 163 0) = rw b at e in
+    let z : _≡_ {A = ℕ} 0 4294967296 = sym w ∙ ap (λ (l : List ℕ). getD l 0 0) h in
+    omega arith
+
+-- bytes_of: the lowest byte of a number stands first
+pub number-reversed : (κs : Lfts 0) (x : List ℕ) (s : AtExit (endedOf 0 bytes-of-kinds.ps bytes-of-kinds.r) κs)
+    → getD x 7 0 ≡ 1 → bytes-of-reads.Post κs (1 ∷ replicate 20 0, tt) x s → ⊥
+unfolding flat8
+number-reversed κs x s w e =
+    let z : _≡_ {A = ℕ} 1 0 = sym w ∙ ap (λ (l : List ℕ). getD l 7 0) e in
     omega arith

@@ -10,6 +10,12 @@ use Rattle.words.proofs.words_in.Kinds as words-in-kinds
 use Rattle.words.proofs.words_in.Reads as words-in-reads
 use Rattle.words.proofs.figures_in.Kinds as figures-in-kinds
 use Rattle.words.proofs.figures_in.Reads as figures-in-reads
+use Rattle.words.proofs.twenty_in.Kinds as twenty-in-kinds
+use Rattle.words.proofs.twenty_in.Reads as twenty-in-reads
+use Rattle.words.proofs.numbers_in.Kinds as numbers-in-kinds
+use Rattle.words.proofs.numbers_in.Reads as numbers-in-reads
+use Rattle.words.proofs.bytes_of.Kinds as bytes-of-kinds
+use Rattle.words.proofs.bytes_of.Reads as bytes-of-reads
 use Rattle.words.proofs.numbered_record.Kinds as numbered-record-kinds
 use Rattle.words.proofs.numbered_record.Reads as numbered-record-reads
 use Rattle.words.proofs.record_of.Kinds as record-of-kinds
@@ -32,6 +38,15 @@ record-of-one κs a x y s t p q = p ∙ sym q
 
 pub figures-in-one : OneAnswer 1 figures-in-kinds.ps figures-in-kinds.r figures-in-reads.Post
 figures-in-one κs a x y s t p q = p ∙ sym q
+
+pub twenty-in-one : OneAnswer 1 twenty-in-kinds.ps twenty-in-kinds.r twenty-in-reads.Post
+twenty-in-one κs a x y s t p q = p ∙ sym q
+
+pub numbers-in-one : OneAnswer 1 numbers-in-kinds.ps numbers-in-kinds.r numbers-in-reads.Post
+numbers-in-one κs a x y s t p q = p ∙ sym q
+
+pub bytes-of-one : OneAnswer 0 bytes-of-kinds.ps bytes-of-kinds.r bytes-of-reads.Post
+bytes-of-one κs a x y s t p q = p ∙ sym q
 
 pub numbered-record-one : OneAnswer 0 numbered-record-kinds.ps numbered-record-kinds.r numbered-record-reads.Post
 numbered-record-one κs a x y s t p q = p ∙ sym q

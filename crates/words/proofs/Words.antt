@@ -8,7 +8,7 @@ use native.Mathlib.Omega.{arith}
 use lib.ListN.{length, getD, take, drop, replicate, set, length-append}
 use lib.Seq.{take-suc, getD-drop, length-take-le, take-append-add, drop-append-add}
 use borrow.Author.Tests.{le-leb, lt-leb}
-use Rattle.words.specs.Words.{le4, flat, wordAt, wordsOf, wordsIn, countedIn}
+use Rattle.words.specs.Words.{le4, flat, wordAt, wordsOf, wordsIn, countedIn, le8, flat8, numberAt, numbersOf, numbersIn}
 use Rattle.answer.specs.Over.{over}
 use Rattle.codec.proofs.Overs.{over-all, laid-done, laid-kept}
 use Rattle.filter.specs.Filter.{upOf}
@@ -130,3 +130,69 @@ over-in-flat (w ∷ ws) (suc i) x h =
     let t = take-append-add (le4 w) (flat ws) (i * 4) in
     let d = drop-append-add (le4 w) (flat ws) (i * 4 + 4) in
     rw (e, k, t, d) (ap (λ (r : List ℕ). le4 w ++ r) (over-in-flat ws i x (le-of-suc-le-suc h)))
+
+-- the same of numbers of 64 bits
+flat8-append : (x y : List ℕ) → flat8 (x ++ y) ≡ flat8 x ++ flat8 y
+unfolding flat8
+flat8-append [] y = refl
+flat8-append (w ∷ x) y = ap (λ (t : List ℕ). le8 w ++ t) (flat8-append x y)
+
+flat8-more : (w : List ℕ) (i : ℕ) → i < length w → flat8 (take (i + 1) w) ≡ flat8 (take i w) ++ le8 (getD w i 0)
+unfolding flat8
+flat8-more w i h = rw (add-one, take-suc w i 0, flat8-append)
+
+pub length-flat8 : (w : List ℕ) → length (flat8 w) ≡ length w * 8
+unfolding flat8
+length-flat8 [] = refl
+length-flat8 (x ∷ w) = omega (arith, length-flat8 w)
+
+pub length-numbers : (n : ℕ) (l : List ℕ) → length (numbersOf n l) ≡ n
+unfolding numbersOf
+length-numbers zero l = refl
+length-numbers (suc n) l = ap suc (length-numbers n (drop 8 l))
+
+number-at-drop : (l : List ℕ) (n k : ℕ) → numberAt (drop n l) k ≡ numberAt l (n + k)
+number-at-drop l n k =
+    let h : wordAt (drop n l) (k + 4) ≡ wordAt l (n + k + 4) = word-at-drop l n (k + 4) ∙ ap (wordAt l) (omega arith) in
+    omega (arith, word-at-drop l n k, h)
+
+pub number-of : (n : ℕ) (l : List ℕ) (i : ℕ) → i < n → getD (numbersOf n l) i 0 ≡ numberAt l (i * 8)
+unfolding numbersOf
+number-of zero l i h = absurd (not-suc-le-zero h)
+number-of (suc n) l zero h = refl
+number-of (suc n) l (suc i) h = number-of n (drop 8 l) i (le-of-suc-le-suc h) ∙ number-at-drop l 8 (i * 8) ∙ ap (numberAt l) (omega arith)
+
+pub numbers-room : (n : ℕ) (l : List ℕ) → n * 8 ≤ length l → numbersIn n l ≡ numbersOf n l
+unfolding numbersIn
+numbers-room n l h = rw (le-leb (n * 8) (length l) h)
+
+pub numbers-beyond : (n : ℕ) (l : List ℕ) → length l < n * 8 → replicate n 0 ≡ numbersIn n l
+unfolding numbersIn
+numbers-beyond n l h = rw (lt-leb (n * 8) (length l) h)
+
+-- the two words of a number, one after the other
+pub over-halves : (d o p : List ℕ) (at x : ℕ) → at + 8 ≤ length d → o ≡ over d at (le4 (x % 4294967296)) → p ≡ over o (at + 4) (le4 (x / 4294967296)) → p ≡ over d at (le8 x)
+over-halves d o p at x h e f = f ∙ rw e (over-over d at (at + 4) (le4 (x % 4294967296)) (le4 (x / 4294967296)) (omega arith) refl)
+
+-- one number more of numbers that are written over
+pub over-number : (d b' b w : List ℕ) (i : ℕ) → b' ≡ over b (i * 8) (le8 (getD w i 0)) → b ≡ over d 0 (flat8 (take i w)) → i < length w → b' ≡ over d 0 (flat8 (take (i + 1) w))
+over-number d b' b w i e h k =
+    let n : i * 8 ≡ 0 + length (flat8 (take i w)) = omega (arith, length-flat8 (take i w), length-take-le i w (omega arith)) in
+    e ∙ rw h (over-over d 0 (i * 8) (flat8 (take i w)) (le8 (getD w i 0)) (omega arith) n ∙ ap (over d 0) (sym (flat8-more w i k)))
+
+-- numbers below 2 ^ 64 are read back from their bytes
+abbrev pub Wide : List ℕ → Type 0
+Wide [] = Unit {0}
+Wide (x ∷ xs) = (x < 18446744073709551616) × Wide xs
+
+number-back : (x : ℕ) (r : List ℕ) → x < 18446744073709551616 → numberAt (le8 x ++ r) 0 ≡ x
+number-back x r h =
+    let low : x % 4294967296 < 4294967296 = omega arith in
+    let high : x / 4294967296 < 4294967296 = omega arith in
+    omega (arith, word-back (x % 4294967296) low, word-back (x / 4294967296) high)
+
+pub numbers-back : (v r : List ℕ) → Wide v → numbersOf (length v) (flat8 v ++ r) ≡ v
+unfolding numbersOf flat8
+numbers-back [] r h = refl
+numbers-back (x ∷ xs) r h =
+    ap (λ (n : ℕ). n ∷ numbersOf (length xs) (flat8 xs ++ r)) (number-back x (flat8 xs ++ r) (h .0)) ∙ ap (λ (t : List ℕ). x ∷ t) (numbers-back xs r (h .1))

@@ -36,3 +36,22 @@ wordsIn n at l = cond (leb (at + n * 4) (length l)) (wordsOf n (drop at l)) (rep
 -- one more in word i, and n at most; nothing where it does not lie within the bytes
 unfoldable pub countedIn : List ℕ → ℕ → ℕ → List ℕ
 countedIn l i n = laid l (i * 4) (le4 (upOf (wordAt l (i * 4)) n))
+
+-- A number of 64 bits as eight bytes: its low word, then its high word. The same of numbers, and read back.
+abbrev pub le8 : ℕ → List ℕ
+le8 x = le4 (x % 4294967296) ++ le4 (x / 4294967296)
+
+unfoldable pub flat8 : List ℕ → List ℕ
+flat8 [] = []
+flat8 (x ∷ xs) = le8 x ++ flat8 xs
+
+abbrev pub numberAt : List ℕ → ℕ → ℕ
+numberAt l at = wordAt l at + 4294967296 * wordAt l (at + 4)
+
+unfoldable pub numbersOf : ℕ → List ℕ → List ℕ
+numbersOf zero l = []
+numbersOf (suc n) l = numberAt l 0 ∷ numbersOf n (drop 8 l)
+
+-- the first n, zeros where they do not lie within the bytes
+unfoldable pub numbersIn : ℕ → List ℕ → List ℕ
+numbersIn n l = cond (leb (n * 8) (length l)) (numbersOf n l) (replicate n 0)

@@ -6,7 +6,7 @@ ghost use Prim.Native.Nat.{_+_, _*_, _≤_, _<_};
 ghost use lib.ListN.{length, drop};
 ghost use Rattle.answer.specs.Over.{over};
 ghost use Rattle.codec.specs.Over.{laid};
-ghost use Rattle.words.specs.Words.{le4, flat, wordOf, wordAt, wordsOf, wordsIn, countedIn};
+ghost use Rattle.words.specs.Words.{le4, flat, wordOf, wordAt, wordsOf, wordsIn, countedIn, le8, flat8, numberAt, numbersOf, numbersIn};
 ghost use Rattle.words.specs.Ranges.{inside};
 
 fn wide(x: u8) -> u32
@@ -87,6 +87,19 @@ pub fn figures_in(b: &[u8], at: u32) -> [u32; 43]
     v
 }
 
+// Twenty words of b from `at`.
+pub fn twenty_in(b: &[u8], at: u32) -> [u32; 20]
+    ensures { λ r. ⌜ r ≡ wordsIn 20 at (now (b .entry)) ⌝ }
+{
+    let from = at as usize;
+    let mut f = [0u32; 20];
+    if from + 80 <= b.len() {
+        read_words(&mut f, b, from);
+        return f;
+    }
+    f
+}
+
 // Twelve words laid over b from `at`.
 pub fn lay_words(b: &mut [u8], at: u32, w: [u32; 12])
     ensures { λ _. ⌜ now (b .exit) ≡ laid (now (b .entry)) at (flat w) ⌝ }
@@ -141,4 +154,70 @@ pub fn count_at(b: &mut [u8], i: u32, most: u32)
         let more = filter::up(x, most);
         put_word(b, at, more);
     }
+}
+
+fn wider(x: u32) -> u64
+    ensures { λ r. ⌜ (r ≡ x) × (r < 4294967296) ⌝ }
+{
+    x as u64
+}
+
+// The number of 64 bits whose first byte stands at `at`, its low word first.
+fn number_at(b: &[u8], at: usize) -> u64
+    requires { ⌜ at + 8 ≤ length (now b) ⌝ }
+    ensures { λ r. ⌜ r ≡ numberAt (now (b .entry)) at ⌝ }
+{
+    let low = word_at(b, at);
+    let high = word_at(b, at + 4);
+    wider(low) + 4294967296 * wider(high)
+}
+
+// v becomes the numbers of b.
+fn read_numbers(v: &mut [u64], b: &[u8])
+    requires { ⌜ length (now v) * 8 ≤ length (now b) ⌝ }
+    ensures { λ _. ⌜ now (v .exit) ≡ numbersOf (length (now (v .entry))) (now (b .entry)) ⌝ }
+{
+    for i in 0..v.len() {
+        v[i] = number_at(b, i * 8);
+    }
+}
+
+// The first twenty-one numbers of 64 bits of b.
+pub fn numbers_in(b: &[u8]) -> [u64; 21]
+    ensures { λ r. ⌜ r ≡ numbersIn 21 (now (b .entry)) ⌝ }
+{
+    let mut v = [0u64; 21];
+    if 168 <= b.len() {
+        read_numbers(&mut v, b);
+        return v;
+    }
+    v
+}
+
+// The eight bytes of x from `at`.
+fn put_number(b: &mut [u8], at: usize, x: u64)
+    requires { ⌜ at + 8 ≤ length (now b) ⌝ }
+    ensures { λ _. ⌜ now (b .exit) ≡ over (now (b .entry)) at (le8 x) ⌝ }
+{
+    put_word(b, at, (x % 4294967296) as u32);
+    put_word(b, at + 4, (x / 4294967296) as u32);
+}
+
+// The bytes of the numbers.
+fn put_numbers(b: &mut [u8], v: &[u64])
+    requires { ⌜ length (now v) * 8 ≤ length (now b) ⌝ }
+    ensures { λ _. ⌜ now (b .exit) ≡ over (now (b .entry)) 0 (flat8 (now (v .entry))) ⌝ }
+{
+    for i in 0..v.len() {
+        put_number(b, i * 8, v[i]);
+    }
+}
+
+// The 168 bytes of twenty-one numbers of 64 bits.
+pub fn bytes_of(v: [u64; 21]) -> [u8; 168]
+    ensures { λ r. ⌜ r ≡ flat8 v ⌝ }
+{
+    let mut t = [0u8; 168];
+    put_numbers(&mut t, &v);
+    t
 }

@@ -2,13 +2,13 @@
 //!
 //!     compare --seed N --traces M [--from I] [--cases DIR] [--write DIR]
 //!
-//! --from I --traces 1 repeats trace I alone; --write keeps each trace and its listing.
+//! --from I --traces 1 repeats trace I alone; --write keeps each trace and its listing. With every 25th trace comes one of quarter-hours.
 //!
 //! LEDGERS: programs that read a trace and print its listing, by path, with colons between. EXPLAINS: programs that print its
-//! explanation, and CALLS: programs made of calls.c and a card's library, likewise. second/compare builds them and sets all three.
-//! LEDGER is taken where LEDGERS is not set.
+//! explanation, SUMMARIES: programs that print its quarter-hours and days, and CALLS: programs made of calls.c and a card's library,
+//! likewise. second/compare builds them and sets all four. LEDGER is taken where LEDGERS is not set.
 
-use second::card::{Card, LevelFields, RECORD, TOLD};
+use second::card::{Card, Handed, LevelFields, RECORD, TOLD};
 use second::causes_cover::CausesCover;
 use second::cover::Cover;
 use second::explain::explain;
@@ -22,6 +22,9 @@ use second::reader;
 use second::report;
 use second::seconds_cover::SecondsCover;
 use second::seconds_generate;
+use second::summary::{self, Summary, BYTES, DAY, QUARTER};
+use second::summary_cover::SummaryCover;
+use second::summary_generate;
 use std::io::{Read, Write};
 use std::process::{Child, ChildStdin, ChildStdout, Command, Stdio};
 use std::sync::atomic::{AtomicU64, Ordering};
@@ -79,13 +82,25 @@ fn printed(path: &str, trace: &[u8]) -> String {
     text
 }
 
-/// What was exercised: of line, section and path, of the path's causes, of the levels, and of neighbouring seconds.
+/// What was exercised: of line, section and path, of the path's causes, of the levels, of neighbouring seconds, and of summaries.
 #[derive(Default)]
 struct Exercised {
     base: Cover,
     causes: CausesCover,
     levels: LevelCover,
     seconds: SecondsCover,
+    summaries: SummaryCover,
+}
+
+impl Exercised {
+    fn calls(&self) -> u64 {
+        self.base.refusals.iter().sum::<u64>() + self.summaries.calls
+    }
+
+    /// The tables, and what in them is wrong.
+    fn tables(&self) -> Vec<(String, Vec<String>)> {
+        vec![self.base.table(), self.causes.table(), self.levels.table(), self.seconds.table(), self.summaries.table()]
+    }
 }
 
 /// Orders for calls.c, and what the second program answers to them.
@@ -104,6 +119,10 @@ struct Session {
 impl Session {
     fn answer(&mut self, what: String, word: u64, buffer: &[u8], cover: &mut Exercised) {
         cover.base.refusals[(word & 255) as usize] += 1;
+        self.expect(what, word, buffer);
+    }
+
+    fn expect(&mut self, what: String, word: u64, buffer: &[u8]) {
         self.calls.push((self.expected.len(), what));
         self.expected.extend(word.to_le_bytes());
         self.expected.push(0);
@@ -187,33 +206,96 @@ fn step(session: &mut Session, card: &mut Card, sup: u8, f: &Given, cover: &mut 
     session.answer(String::new(), word, &[], cover);
 }
 
-fn mark(session: &mut Session, card: &mut Card, sup: u8, room: usize, fill: u8, cover: &mut Exercised) {
+/// A mark, and the record that it filled.
+fn mark(session: &mut Session, card: &mut Card, sup: u8, room: usize, fill: u8, cover: &mut Exercised) -> Option<Vec<u8>> {
     let mut buffer = vec![fill; room];
     if let (0, Some(s)) = (sup, &card.supervisor) {
         cover.seconds.mark(s);
     }
     let word = card.mark(sup == 0, &mut buffer);
     cover.base.marks += u64::from(word & 255 == 0);
-    told(session, b'M', sup, word, fill, &buffer, cover);
+    told(session, b'M', sup, word, fill, buffer, cover)
 }
 
-fn pending(session: &mut Session, card: &Card, sup: u8, room: usize, fill: u8, cover: &mut Exercised) {
+fn pending(session: &mut Session, card: &Card, sup: u8, room: usize, fill: u8, cover: &mut Exercised) -> Option<Vec<u8>> {
     let mut buffer = vec![fill; room];
     let word = card.pending(sup == 0, &mut buffer);
-    told(session, b'Q', sup, word, fill, &buffer, cover);
+    told(session, b'Q', sup, word, fill, buffer, cover)
 }
 
-/// The order of otn_mark or otn_pending, and its answer: the word and the record.
-fn told(session: &mut Session, order: u8, sup: u8, word: u64, fill: u8, buffer: &[u8], cover: &mut Exercised) {
+/// The order of otn_mark or otn_pending, and its answer: the word and the record. The record is handed back where it has the twenty figures.
+fn told(
+    session: &mut Session,
+    order: u8,
+    sup: u8,
+    word: u64,
+    fill: u8,
+    buffer: Vec<u8>,
+    cover: &mut Exercised,
+) -> Option<Vec<u8>> {
     session.orders.extend([order, sup]);
     session.orders.extend((buffer.len() as u16).to_le_bytes());
     session.orders.push(fill);
-    if word == TOLD && buffer.len() >= 80 {
-        let figure = |i: usize| u32::from_le_bytes(buffer[4 * i..4 * i + 4].try_into().unwrap());
-        session.broken.extend(demand_3_second(&std::array::from_fn(figure)));
-    }
     let name = if order == b'M' { "otn_mark" } else { "otn_pending" };
-    session.answer(format!("{name}, {} bytes", buffer.len()), word, buffer, cover);
+    session.answer(format!("{name}, {} bytes", buffer.len()), word, &buffer, cover);
+    if word != TOLD || buffer.len() < 80 {
+        return None;
+    }
+    let figure = |i: usize| u32::from_le_bytes(buffer[4 * i..4 * i + 4].try_into().unwrap());
+    session.broken.extend(demand_3_second(&std::array::from_fn(figure)));
+    Some(buffer)
+}
+
+/// The order of otn_summary or otn_join, and its answer: the word and the output, which is handed back where the call is accepted.
+fn summed(session: &mut Session, handed: &Handed, room: usize, fill: u8, cover: &mut Exercised) -> Option<Vec<u8>> {
+    let (order, what, inputs) = match handed {
+        Handed::Record(record) => (b'R', "otn_summary", vec![record]),
+        Handed::Two(earlier, later) => (b'J', "otn_join", vec![earlier, later]),
+    };
+    session.orders.push(order);
+    for input in inputs {
+        session.orders.extend((input.len() as u16).to_le_bytes());
+        session.orders.extend(input);
+    }
+    session.orders.extend((room as u16).to_le_bytes());
+    session.orders.push(fill);
+    let mut out = vec![fill; room];
+    let word = handed.answer(&mut out);
+    session.expect(format!("{what}, {room} bytes"), word, &out);
+    cover.summaries.call(handed, word);
+    (word == 0).then_some(out)
+}
+
+/// What a caller keeps beside the seconds: the summaries of the quarter-hour and of the day so far.
+struct Kept {
+    quarter: Vec<u8>,
+    day: Vec<u8>,
+}
+
+fn empty() -> Vec<u8> {
+    Summary::default().bytes().to_vec()
+}
+
+impl Kept {
+    /// A reported second is joined to its quarter-hour, and a quarter-hour that is whole to its day.
+    fn second(&mut self, session: &mut Session, record: Vec<u8>, fill: u8, cover: &mut Exercised) {
+        let number = u64::from(u32::from_le_bytes(record[..4].try_into().unwrap()));
+        let second = summed(session, &Handed::Record(record), BYTES, fill, cover).expect("it is a reported second");
+        join(session, &mut self.quarter, second, fill, cover);
+        if number % QUARTER == 0 {
+            let quarter = std::mem::replace(&mut self.quarter, empty());
+            join(session, &mut self.day, quarter, fill, cover);
+        }
+        if number % DAY == 0 {
+            self.day = empty();
+        }
+    }
+}
+
+/// What comes later is joined to what is kept, or kept alone where that is refused: a caller whose record was too short has a gap.
+fn join(session: &mut Session, kept: &mut Vec<u8>, later: Vec<u8>, fill: u8, cover: &mut Exercised) {
+    let handed = Handed::Two(std::mem::take(kept), later.clone());
+    *kept = summed(session, &handed, BYTES, fill, cover).unwrap_or(later);
 }
 
 /// Whose accepted trace is read.
@@ -306,8 +388,8 @@ fn aside(rng: &mut Random, session: &mut Session, card: &mut Card, p: &Provision
             let f = Given { overhead: &good, flags: 0, counts: [0; 2], six };
             step(session, card, refused(rng), &f, cover);
         }
-        4 => mark(session, card, refused(rng), rng.pick(&[0, 1, 79, 80, 81, 175, 176, 177]), rng.byte(), cover),
-        10 => pending(session, card, sup, any_room(rng), rng.byte(), cover),
+        4 => drop(mark(session, card, refused(rng), rng.pick(&[0, 1, 79, 80, 81, 175, 176, 177]), rng.byte(), cover)),
+        10 => drop(pending(session, card, sup, any_room(rng), rng.byte(), cover)),
         5 | 6 => {
             let layer = if rng.once_in(4) { rng.byte() } else { rng.below(2) as u8 };
             let of = if rng.once_in(2) { Of::Layer(layer) } else { Of::Level(any_level(rng)) };
@@ -380,9 +462,17 @@ fn level_fields(level: u8, p: &LevelProvisioning) -> LevelFields<'_> {
     LevelFields { level, thr: p.degthr, degm: p.degm, mode: p.mode, dis: p.dis, names: &p.names }
 }
 
-fn session(rng: &mut Random, g: &Generated, cover: &mut Exercised) -> Session {
+/// What is handed in to be summed after the trace, each with the room for its answer; and whether the caller has room for every record, so that its
+/// summaries have no gap.
+struct Caller {
+    handed: Vec<(Handed, usize)>,
+    roomy: bool,
+}
+
+fn session(rng: &mut Random, g: &Generated, caller: &Caller, cover: &mut Exercised) -> Session {
     let mut session = Session::default();
     let mut card = Card::default();
+    let mut kept = Kept { quarter: empty(), day: empty() };
     let p = &g.provisioning;
     let fields = Fields { k: p.k, thr: p.degthr, degm: p.degm, mode: p.mode, dis: p.dis, names: [&p.names[0], &p.names[1]] };
     fresh(&mut session, &mut card, 0, &fields, cover);
@@ -420,7 +510,11 @@ fn session(rng: &mut Random, g: &Generated, cover: &mut Exercised) -> Session {
                 }
             }
             Item::Mark => {
-                mark(&mut session, &mut card, 0, any_room(rng), rng.byte(), cover);
+                let (room, fill) = (any_room(rng), rng.byte());
+                let room = if caller.roomy { RECORD } else { room };
+                if let Some(record) = mark(&mut session, &mut card, 0, room, fill, cover) {
+                    kept.second(&mut session, record, fill, cover);
+                }
                 if rng.once_in(2) {
                     pending(&mut session, &card, 0, any_room(rng), rng.byte(), cover);
                 }
@@ -431,18 +525,25 @@ fn session(rng: &mut Random, g: &Generated, cover: &mut Exercised) -> Session {
         }
     }
     // What a scan prints last.
-    pending(&mut session, &card, 0, RECORD, rng.byte(), cover);
+    let fill = rng.byte();
+    if let Some(record) = pending(&mut session, &card, 0, RECORD, fill, cover) {
+        kept.second(&mut session, record, fill, cover);
+    }
+    for (handed, room) in &caller.handed {
+        summed(&mut session, handed, *room, rng.byte(), cover);
+    }
     card.supervisor.iter().for_each(|s| cover.seconds.end(s));
     session.orders.push(b'Z');
     session
 }
 
-/// What a worker is given: whose trace it is, the trace, its listing and explanation (empty where it is not compared), the orders and
-/// their answers.
+/// What a worker is given: whose trace it is, the trace, its listing, its quarter-hours and its explanation (empty where it is not compared),
+/// the orders and their answers.
 struct Task {
     whose: String,
     trace: Vec<u8>,
     listing: String,
+    quarters: String,
     explanation: String,
     session: Option<Session>,
 }
@@ -508,6 +609,7 @@ fn calls_worker(path: String) -> Worker {
 /// The programs under test, by path.
 struct Programs {
     ledgers: Vec<String>,
+    summaries: Vec<String>,
     explains: Vec<String>,
     calls: Vec<String>,
 }
@@ -527,9 +629,10 @@ struct Workers(Vec<Worker>);
 impl Workers {
     fn start(programs: &Programs) -> Workers {
         let ledgers = programs.ledgers.iter().map(|path| text_worker(path.clone(), |task| &task.listing));
+        let summaries = programs.summaries.iter().map(|path| text_worker(path.clone(), |task| &task.quarters));
         let explains = programs.explains.iter().map(|path| text_worker(path.clone(), |task| &task.explanation));
         let calls = programs.calls.iter().map(|path| calls_worker(path.clone()));
-        Workers(ledgers.chain(explains).chain(calls).collect())
+        Workers(ledgers.chain(summaries).chain(explains).chain(calls).collect())
     }
     fn give(&self, task: Task) {
         let task = std::sync::Arc::new(task);
@@ -608,9 +711,10 @@ fn directed(dir: &str, programs: &Programs, write: &Option<String>, causes: &mut
         for unmet in &case.unmet {
             fail(unmet.clone());
         }
-        let listed = reader::list(&case.bytes);
-        if listed != case.listing {
-            fail(parting(&listed, &case.listing));
+        for (got, expected) in [(reader::list(&case.bytes), &case.listing), (summary::quarters(&case.bytes), &case.quarters)] {
+            if got != *expected {
+                fail(parting(&got, expected));
+            }
         }
         // The calls meet a full second in trace 0.
         let g = Generated {
@@ -622,13 +726,68 @@ fn directed(dir: &str, programs: &Programs, write: &Option<String>, causes: &mut
             about: String::new(),
         };
         let mut cover = Exercised::default();
-        let session = (g.items.len() < 100_000).then(|| session(&mut Random::new(count), &g, &mut cover));
+        let caller = Caller { handed: case.handed.into_iter().map(|handed| (handed, BYTES)).collect(), roomy: false };
+        let session = (g.items.len() < 100_000).then(|| session(&mut Random::new(count), &g, &caller, &mut cover));
         causes.add(&cover.causes);
         let explanation = programs.explanation(&case.bytes);
-        workers.give(Task { whose, trace: case.bytes, listing: case.listing, explanation, session });
+        let (listing, quarters) = (case.listing, case.quarters);
+        workers.give(Task { whose, trace: case.bytes, listing, quarters, explanation, session });
     }
     workers.end();
     println!("{count} directed cases, {} differences", DIFFERENCES.load(Ordering::Relaxed));
+}
+
+/// Trace `index` by seed. Every fifth is of neighbouring seconds; of the others every third has levels.
+fn generated(seed: u64, index: u64) -> Generated {
+    let other = index - index / 5;
+    match (index % 5, other % 3) {
+        (4, _) => seconds_generate::trace(seed, index / 5),
+        (_, 2) => level_generate::trace(seed, other / 3),
+        _ => generate::trace(seed, other - other / 3),
+    }
+}
+
+/// A run over traces by seed.
+struct Run<'a> {
+    seed: u64,
+    programs: &'a Programs,
+    workers: Workers,
+    write: Option<String>,
+    cover: Exercised,
+    listings: u64,
+    explanations: u64,
+}
+
+impl Run<'_> {
+    /// One trace to every program. `number` is its own, and `roomy` as in `Caller`.
+    fn trace(&mut self, name: &str, number: u64, g: Generated, roomy: bool) {
+        let seed = self.seed;
+        let whose = format!("seed {seed} trace {name} ({})", g.about);
+        // The full second's texts are a directed case.
+        let [listing, quarters, explanation] = match number {
+            0 => Default::default(),
+            _ => [reader::list(&g.bytes), summary::quarters(&g.bytes), self.programs.explanation(&g.bytes)],
+        };
+        self.listings += u64::from(!listing.is_empty());
+        self.explanations += u64::from(!explanation.is_empty());
+        self.cover.summaries.printed(&quarters);
+        if let Some(number) = listing.lines().find_map(|l| l.strip_prefix("R ")?.split(' ').next()?.parse::<usize>().ok()) {
+            self.cover.base.refusals[number] += 1;
+        }
+        if let Some(dir) = &self.write {
+            std::fs::write(format!("{dir}/{seed}-{name}.trace"), &g.bytes).unwrap();
+            std::fs::write(format!("{dir}/{seed}-{name}.listing"), &listing).unwrap();
+        }
+        let mixed = seed ^ number.wrapping_mul(0xD1B5_4A32_D192_ED03);
+        let mut rng = Random::new(mixed.rotate_left(32));
+        let handed = (0..20).map(|_| (summary_generate::handed(&mut rng), summary_generate::room(&mut rng))).collect();
+        let caller = Caller { handed, roomy };
+        let session = session(&mut Random::new(mixed), &g, &caller, &mut self.cover);
+        for broken in session.broken.iter().take(1) {
+            differs(format!("{whose}: second: demand 3: {broken}"));
+        }
+        self.workers.give(Task { whose, trace: g.bytes, listing, quarters, explanation, session: Some(session) });
+    }
 }
 
 fn main() {
@@ -652,7 +811,8 @@ fn main() {
             }
         }
     }
-    let mut programs = Programs { ledgers: paths("LEDGERS"), explains: paths("EXPLAINS"), calls: paths("CALLS") };
+    let mut programs =
+        Programs { ledgers: paths("LEDGERS"), summaries: paths("SUMMARIES"), explains: paths("EXPLAINS"), calls: paths("CALLS") };
     if programs.ledgers.is_empty() {
         programs.ledgers = paths("LEDGER");
     }
@@ -662,63 +822,37 @@ fn main() {
         directed(dir, &programs, &write, &mut cover.causes);
     }
     println!("seed {seed}, {traces} traces");
-    let (mut listings, mut explanations) = (0u64, 0u64);
     let workers = Workers::start(&programs);
+    let mut run = Run { seed, programs: &programs, workers, write, cover, listings: 0, explanations: 0 };
     for index in from..from + traces {
         if enough() {
             println!("{MANY} differences; no more is compared");
             break;
         }
-        // Every fifth trace is of neighbouring seconds; of the others every third has levels.
-        let other = index - index / 5;
-        let g = match (index % 5, other % 3) {
-            (4, _) => seconds_generate::trace(seed, index / 5),
-            (_, 2) => level_generate::trace(seed, other / 3),
-            _ => generate::trace(seed, other - other / 3),
-        };
-        let whose = format!("seed {seed} trace {index} ({})", g.about);
-        // The full second's texts are a directed case.
-        let listing = if index == 0 { String::new() } else { reader::list(&g.bytes) };
-        let explanation = if index == 0 { String::new() } else { programs.explanation(&g.bytes) };
-        listings += u64::from(!listing.is_empty());
-        explanations += u64::from(!explanation.is_empty());
-        if let Some(number) = listing.lines().find_map(|l| l.strip_prefix("R ")?.split(' ').next()?.parse::<usize>().ok()) {
-            cover.base.refusals[number] += 1;
+        run.trace(&index.to_string(), index, generated(seed, index), false);
+        if index % 25 == 24 {
+            run.trace(&format!("{index}-quarters"), !index, summary_generate::trace(seed, index / 25), true);
         }
-        if let Some(dir) = &write {
-            std::fs::write(format!("{dir}/{seed}-{index}.trace"), &g.bytes).unwrap();
-            std::fs::write(format!("{dir}/{seed}-{index}.listing"), &listing).unwrap();
-        }
-        let mut rng = Random::new(seed ^ index.wrapping_mul(0xD1B5_4A32_D192_ED03));
-        let session = session(&mut rng, &g, &mut cover);
-        for broken in session.broken.iter().take(1) {
-            differs(format!("{whose}: second: demand 3: {broken}"));
-        }
-        workers.give(Task { whose, trace: g.bytes, listing, explanation, session: Some(session) });
     }
-    workers.end();
+    run.workers.end();
     let failures = DIFFERENCES.load(Ordering::Relaxed);
-    let (table, mut wrong) = cover.base.table();
-    println!("{table}");
-    let (table, of_causes) = cover.causes.table();
-    println!("{table}");
-    wrong.extend(of_causes);
-    let (table, of_levels) = cover.levels.table();
-    println!("{table}");
-    wrong.extend(of_levels);
-    let (table, of_seconds) = cover.seconds.table();
-    println!("{table}");
-    wrong.extend(of_seconds);
+    let mut wrong = Vec::new();
+    for (table, of_table) in run.cover.tables() {
+        println!("{table}");
+        wrong.extend(of_table);
+    }
     for line in &wrong {
         println!("{line}");
     }
     println!(
-        "compared: {} listings each of {}, {} explanations each of {}, {} calls each of {}; {:.1} s",
-        listings,
+        "compared: {} listings each of {}, {} of quarter-hours each of {}, {} explanations each of {}, {} calls each of {}; {:.1} s",
+        run.listings,
         programs.ledgers.len(),
-        explanations,
+        run.listings,
+        programs.summaries.len(),
+        run.explanations,
         programs.explains.len(),
-        cover.base.refusals.iter().sum::<u64>(),
+        run.cover.calls(),
         programs.calls.len(),
         began.elapsed().as_secs_f64()
     );

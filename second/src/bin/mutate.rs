@@ -1,9 +1,9 @@
-//! Makes change number I of a list to the plain C in the folder FROM and writes its three sources into the folder TO. Prints the name; without such a
+//! Makes change number I of a list to the plain C in the folder FROM and writes its sources into the folder TO. Prints the name; without such a
 //! number ends with status 3.
 //!
 //!     mutate LIST I FROM TO
 
-const SOURCES: [&str; 3] = ["plain.c", "plain_ledger.c", "plain_card.c"];
+const SOURCES: [&str; 5] = ["plain.c", "plain_reader.h", "plain_ledger.c", "plain_quarters.c", "plain_card.c"];
 
 /// What follows the sign, with its lines' ends.
 fn part(line: &str, sign: char) -> String {

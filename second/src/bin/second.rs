@@ -1,4 +1,5 @@
-//! Reads a trace on standard input and prints its listing, by the second program; with --explain its explanation.
+//! Reads a trace on standard input and prints its listing, by the second program; with --explain its explanation, with --quarters its quarter-hours
+//! and days.
 
 use std::io::{Read, Write};
 
@@ -7,8 +8,9 @@ fn main() {
     let text = match &args[..] {
         [] => second::reader::list,
         [word] if word == "--explain" => second::explain::explain,
+        [word] if word == "--quarters" => second::summary::quarters,
         _ => {
-            eprintln!("second [--explain] < TRACE");
+            eprintln!("second [--explain | --quarters] < TRACE");
             std::process::exit(2);
         }
     };

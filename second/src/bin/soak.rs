@@ -1,4 +1,4 @@
-//! Random and mutated input to the programs in LEDGERS and EXPLAINS: each must print what the second program prints.
+//! Random and mutated input to the programs in LEDGERS, SUMMARIES and EXPLAINS: each must print what the second program prints.
 //!
 //!     soak --seed N --inputs M
 
@@ -8,6 +8,8 @@ use second::level_generate;
 use second::random::Random;
 use second::reader::{self, Trace};
 use second::seconds_generate;
+use second::summary;
+use second::summary_generate;
 use std::io::{Read, Write};
 use std::process::{Command, ExitStatus, Stdio};
 
@@ -95,17 +97,17 @@ fn main() {
             }
         }
     }
-    let ledgers = std::env::var("LEDGERS").unwrap_or_default();
-    let explains = std::env::var("EXPLAINS").unwrap_or_default();
+    let [ledgers, summaries, explains] = ["LEDGERS", "SUMMARIES", "EXPLAINS"].map(|name| std::env::var(name).unwrap_or_default());
     let mut refusals = [0u64; 20];
     let mut rng = Random::new(seed);
     let mut from = Vec::new();
     for index in 0..inputs {
         if index % 50 == 0 {
-            from = match index / 50 % 3 {
+            from = match index / 50 % 4 {
                 0 => generate::trace(seed, 1 + index / 50).bytes,
                 1 => level_generate::trace(seed, index / 50).bytes,
-                _ => seconds_generate::trace(seed, index / 50).bytes,
+                2 => seconds_generate::trace(seed, index / 50).bytes,
+                _ => summary_generate::trace(seed, index / 50).bytes,
             };
             if from.len() < 83 {
                 from = generate::trace(seed, 1_000_001).bytes;
@@ -117,7 +119,9 @@ fn main() {
         let refused = expected.lines().find_map(|l| l.strip_prefix("R ")?.split(' ').next()?.parse::<usize>().ok());
         refusals[refused.unwrap_or(0)] += 1;
         let explained = if explains.is_empty() { String::new() } else { explain(&bytes) };
-        for (path, expected) in paths(&ledgers).map(|p| (p, &expected)).chain(paths(&explains).map(|p| (p, &explained))) {
+        let of_quarters = summary::quarters(&bytes);
+        let texts = [(&ledgers, &expected), (&summaries, &of_quarters), (&explains, &explained)];
+        for (path, expected) in texts.into_iter().flat_map(|(list, text)| paths(list).map(move |path| (path, text))) {
             let (got, status) = run(path, &bytes);
             if got != expected.as_bytes() || status.code().is_none() {
                 println!("soak: seed {seed} input {index} ({} bytes): {path}: {status}", bytes.len());

@@ -1,4 +1,4 @@
-//! Draws a listing or an explanation as an SVG page.
+//! Draws a listing, an explanation or quarter-hours as an SVG page.
 //!
 //!     timeline [--from N] [--to M] [FILE] > my.svg
 
@@ -7,7 +7,8 @@ use std::path::Path;
 use tools::program::{run, Given, Words};
 use tools::timeline::{page, read};
 
-const USAGE: &str = "timeline [--from N] [--to M] [FILE] > SVG: draws the listing or explanation in FILE, or on standard input
+const USAGE: &str =
+    "timeline [--from N] [--to M] [FILE] > SVG: draws the listing, explanation or quarter-hours in FILE, or on standard input
 One page for any browser. Of a long listing a part:
     --from N    the first second to show; without it, the first of all
     --to M      the last second to show; without it, the last of all

@@ -12,10 +12,10 @@ use Rattle.reading.proofs.pump.Statement.{statement}
 use Rattle.reading.proofs.pump.Tie as tie
 
 abbrev Inv-loop : tie.InvT-loop
-Inv-loop tell buf₀ out₀ r₀ ended₀ buf out r ended = Sound (r .reading) × (r .ended ≡ false → r .held < 83) × (length buf ≡ length buf₀) × (length out ≡ length out₀) × (r .ended ≡ ended)
+Inv-loop tell office buf₀ out₀ r₀ ended₀ buf out r ended = Sound (r .reading) × (r .ended ≡ false → r .held < 83) × (length buf ≡ length buf₀) × (length out ≡ length out₀) × (r .ended ≡ ended)
 
 abbrev μ-loop : tie.MeasureT-loop
-μ-loop tell buf₀ out₀ r₀ ended₀ buf out r ended = toGo (r .ended) (r .reading .at + r .held)
+μ-loop tell office buf₀ out₀ r₀ ended₀ buf out r ended = toGo (r .ended) (r .reading .at + r .held)
 
 started-requires : tie.Need-started-requires Inv-loop μ-loop
 started-requires c κs = search needs

@@ -1,0 +1,1 @@
+// No code: what `quarters` prints, by plain sums.

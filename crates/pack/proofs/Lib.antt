@@ -1,0 +1,4 @@
+pub mod Calls
+pub mod Refuted
+pub mod Trip
+pub mod Unique

@@ -1,0 +1,1 @@
+// No code: the summaries of stretches of a history.

@@ -1,0 +1,6 @@
+pub mod Bounds
+pub mod Joins
+pub mod Laws
+pub mod Refuted
+pub mod Stretch
+pub mod Unique

@@ -1,0 +1,3 @@
+pub mod Summary
+pub mod Laws
+pub mod Stretch

@@ -1,0 +1,1 @@
+// No code: summaries of what calls from C report, in their bytes.
