@@ -29,6 +29,45 @@ gives() {
 
 line() { printf '%s\n' "$@"; }
 
+# pieced TEXT: it writes this of $work/in from a pipe too, in pieces of 7 bytes and of 4,096
+pieced() {
+    local bytes
+    for bytes in 7 4096; do
+        name="pieces of $bytes bytes"
+        said "$1" "$(dd bs=$bytes if="$work/in" 2> /dev/null | timeout 120 "$program")"
+    done
+}
+
+# waits WORDS..: a reader at a pipe sees nothing yet of the trace of these words; more of it may be written to $to, which is then closed
+waits() {
+    name='a line before the end of the input'
+    coproc timeout 60 "$program"
+    exec {back}<&"${COPROC[0]}" {to}>&"${COPROC[1]}"
+    eval "exec ${COPROC[1]}>&-"
+    "$work/trace" "$@" >&"$to"
+    found=
+    read -r -t 2 -u "$back" found
+    said '' "$found"
+}
+
+# sees TEXT: the reader's next line
+sees() {
+    found=
+    read -r -t 30 -u "$back" found
+    said "$1" "$found"
+}
+
+# stops WORDS..: it ends where a write fails, here of the trace of these words, and on an input without end
+stops() {
+    name='a full device'
+    "$work/trace" "$@" > "$work/in"
+    timeout 60 "$program" < "$work/in" > /dev/full 2> "$work/said"
+    said 1 $?
+    said "${program##*/}: the output is cut: its last line is not E" "$(cat "$work/said")"
+    name='zeros without end'
+    said "$(line 'R 15 0' 'E 0 0')" "$(timeout 60 "$program" < /dev/zero)"
+}
+
 # the last line of a test, and its status
 counted() {
     echo "$0: $passed passed, $failed failed"

@@ -194,28 +194,12 @@ text=$(line 'S 1 7 0 3 4 0 0 0 0 0 0 0 0 0 1 0 0 0 1 0' \
     'S 6 70 0 0 0 5 65 0 0 0 0 0 0 0 1 0 0 0 1 0' 'E 6 910')
 gives "$text" "${heads[@]}"
 
-# the same from a pipe, in pieces of 7 bytes and of 4,096
+# the same from a pipe, in pieces
 "$work/trace" "${heads[@]}" > "$work/in"
-name='pieces of 7 bytes'
-said "$text" "$(dd bs=7 if="$work/in" 2> /dev/null | timeout 120 "$program")"
-name='pieces of 4,096 bytes'
-said "$text" "$(dd bs=4096 if="$work/in" 2> /dev/null | timeout 120 "$program")"
+pieced "$text"
 
 # a reader at a pipe sees a second's line at the next mark, before the input ends, and the last one when it ends
-name='a line before the end of the input'
-"$work/trace" P 'Z:flags=1*2' M > "$work/in"
-coproc timeout 60 "$program"
-exec {back}<&"${COPROC[0]}" {to}>&"${COPROC[1]}"
-eval "exec ${COPROC[1]}>&-"
-cat "$work/in" >&"$to"
-found=
-read -r -t 2 -u "$back" found
-said '' "$found"
-sees() {
-    found=
-    read -r -t 30 -u "$back" found
-    said "$1" "$found"
-}
+waits P 'Z:flags=1*2' M
 "$work/trace" M >&"$to"
 sees 'S 1 2 0 2 0 0 0 0 0 0 0 0 0 0 1 0 0 0 1 0'
 "$work/trace" 'Z*2' M >&"$to"
@@ -225,13 +209,7 @@ sees 'S 3 2 2 0 0 0 0 0 0 0 0 0 0 0 0 0 0 0 0 0'
 sees 'E 3 4'
 
 # it ends where a write fails, and on an input without end
-name='a full device'
-"$work/trace" P 'M*5000' > "$work/in"
-timeout 60 "$program" < "$work/in" > /dev/full 2> "$work/said"
-said 1 $?
-said 'ledger: the output is cut: its last line is not E' "$(cat "$work/said")"
-name='zeros without end'
-said "$(line 'R 15 0' 'E 0 0')" "$(timeout 60 "$program" < /dev/zero)"
+stops P 'M*5000'
 
 # the examples
 for trace in examples/*.trace; do

@@ -90,28 +90,12 @@ gives "$(both 1 900 && line 'R 16 3683' 'E 900 0')" P 'M*900' P M
 gives "$(empty 0 95 && sums D 0 1 86400 && line 'R 14 345683' 'E 86400 0')" P 'M*86400' B:02
 gives "$(both 1 1 3 3 && line 'R 19 300' 'E 1 3')" P 'Z*3' M Z5 M
 
-# the same from a pipe, in pieces of 7 bytes and of 4,096
+# the same from a pipe, in pieces
 "$work/trace" "${heads[@]}" > "$work/in"
-name='pieces of 7 bytes'
-said "$text" "$(dd bs=7 if="$work/in" 2> /dev/null | timeout 120 "$program")"
-name='pieces of 4,096 bytes'
-said "$text" "$(dd bs=4096 if="$work/in" 2> /dev/null | timeout 120 "$program")"
+pieced "$text"
 
 # a reader at a pipe sees a quarter-hour's line at the mark after its last one, before the input ends, and what is left when it ends
-name='a line before the end of the input'
-"$work/trace" P 'Z:flags=1*2' 'M*900' > "$work/in"
-coproc timeout 60 "$program"
-exec {back}<&"${COPROC[0]}" {to}>&"${COPROC[1]}"
-eval "exec ${COPROC[1]}>&-"
-cat "$work/in" >&"$to"
-found=
-read -r -t 2 -u "$back" found
-said '' "$found"
-sees() {
-    found=
-    read -r -t 30 -u "$back" found
-    said "$1" "$found"
-}
+waits P 'Z:flags=1*2' 'M*900'
 "$work/trace" M >&"$to"
 sees "$(sums Q 0 1 900 2 0 2 0 0 0 0 0 0 0 0 0 0 1 0 0 0 1)"
 "$work/trace" 'Z*2' M >&"$to"
@@ -121,13 +105,7 @@ sees "$(sums D 0 1 902 4 2 2 0 0 0 0 0 0 0 0 0 0 1 0 0 0 1)"
 sees 'E 902 4'
 
 # it ends where a write fails, and on an input without end
-name='a full device'
-"$work/trace" P 'M*86400' > "$work/in"
-timeout 60 "$program" < "$work/in" > /dev/full 2> "$work/said"
-said 1 $?
-said 'quarters: the output is cut: its last line is not E' "$(cat "$work/said")"
-name='zeros without end'
-said "$(line 'R 15 0' 'E 0 0')" "$(timeout 60 "$program" < /dev/zero)"
+stops P 'M*86400'
 
 # The examples, and a trace of half an hour, by the sums of the lines that ledger writes of them. Column 2 of an S line is the second, 3 to 21 are the figures that are
 # summed; a DS is 0 or 1.
