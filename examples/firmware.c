@@ -21,8 +21,8 @@ struct frame {
 static const uint8_t levels[] = {1, 4};
 #define WATCHED (sizeof levels / sizeof levels[0])
 
-/* A made-up line: six seconds of good frames, of a path that is locked, of lost framing, of errored blocks, of more of them and a TCM4
-   whose source is gone, and of an alignment error, which voids the section's figures of its second and of the one before. */
+/* A made-up line: six seconds of good frames, of a path that is locked, of lost framing, of errored blocks at both ends, of more of them
+   and a TCM4 whose source is gone, and of an alignment error, which voids the section's figures of its second and of the one before. */
 static struct frame next_frame(unsigned n) {
     static const uint8_t fas[6] = {0xf6, 0xf6, 0xf6, 0x28, 0x28, 0x28};
     unsigned second = n / FRAMES_A_SECOND;
@@ -36,6 +36,8 @@ static struct frame next_frame(unsigned n) {
     f.overhead[40] = 1; /* STAT 001 of TCM1: in use */
     if (second < 4) f.overhead[28] = 1; /* and of TCM4 */
     if ((second == 3 || second == 4) && n % 10 == 0) f.sm_violations = 2, f.tcm_violations[0] = 1;
+    if ((second == 3 || second == 4) && n % 20 == 0) f.overhead[9] = 2 << 4; /* section BEI: the far end had two */
+    if ((second == 3 || second == 4) && n % 25 == 0) f.overhead[43] = 8 << 4, f.overhead[40] |= 3 << 4; /* of path and TCM1 */
     if (second == 5 && n % FRAMES_A_SECOND < 20) f.overhead[9] = 4; /* section IAE */
     return f;
 }
@@ -55,17 +57,27 @@ static void say_level(unsigned n, unsigned level, uint64_t report) {
            OTN_TCM_CLTC(report) ? ", cause LTC" : "", OTN_TCM_CDEG(report) ? ", cause DEG" : "");
 }
 
+/* The far end tells the violations of each of its errored blocks, 1 to 8; the record has their sum. */
+static void say_blocks(uint32_t near, uint32_t far, uint32_t sum) {
+    printf("%u near, %u far", (unsigned)near, (unsigned)far);
+    if (far) printf(" (%u violations)", (unsigned)sum);
+}
+
 static void say_second(const uint8_t *record) {
     printf("second %u: %u frames", (unsigned)otn_figure(record, OTN_SECOND), (unsigned)otn_figure(record, OTN_FRAMES));
     for (unsigned head = 0; head < 10; head++) {
         unsigned under = (unsigned)otn_figure(record, OTN_UNDER + head);
         if (under) printf(", %u %s", under, head_in_words[head]);
     }
-    printf("; errored blocks: section %u near, %u far, path %u near, %u far", (unsigned)otn_figure(record, OTN_SECTION_NEAR),
-           (unsigned)otn_figure(record, OTN_SECTION_FAR), (unsigned)otn_figure(record, OTN_PATH_NEAR), (unsigned)otn_figure(record, OTN_PATH_FAR));
-    for (size_t i = 0; i < WATCHED; i++)
-        printf(", TCM%u %u near, %u far", levels[i], (unsigned)otn_level_figure(record, levels[i], OTN_LEVEL_NEAR),
-               (unsigned)otn_level_figure(record, levels[i], OTN_LEVEL_FAR));
+    printf("; errored blocks: section ");
+    say_blocks(otn_figure(record, OTN_SECTION_NEAR), otn_figure(record, OTN_SECTION_FAR), otn_figure(record, OTN_SECTION_FAR_SUM));
+    printf(", path ");
+    say_blocks(otn_figure(record, OTN_PATH_NEAR), otn_figure(record, OTN_PATH_FAR), otn_figure(record, OTN_PATH_FAR_SUM));
+    for (size_t i = 0; i < WATCHED; i++) {
+        printf(", TCM%u ", levels[i]);
+        say_blocks(otn_level_figure(record, levels[i], OTN_LEVEL_NEAR), otn_level_figure(record, levels[i], OTN_LEVEL_FAR),
+                   otn_level_figure(record, levels[i], OTN_LEVEL_FAR_SUM));
+    }
     printf("\n");
 }
 
@@ -75,9 +87,11 @@ static uint8_t quarter[OTN_SUMMARY_BYTES];
 static unsigned long long of_quarter(unsigned figure) { return otn_summary_figure(quarter, figure); }
 
 static void end_quarter(void) {
-    printf("quarter-hour %llu: %llu seconds, %llu frames, %llu clear; defect seconds: section %llu near, path %llu near\n",
+    printf("quarter-hour %llu: %llu seconds, %llu frames, %llu clear; defect seconds: section %llu near, path %llu near; "
+           "far end's violations: section %llu, path %llu\n",
            (unsigned long long)otn_quarter(of_quarter(OTN_SUMMARY_FIRST)), of_quarter(OTN_SUMMARY_LENGTH), of_quarter(OTN_SUMMARY_FRAMES),
-           of_quarter(OTN_SUMMARY_UNDER + OTN_HEAD_CLEAR), of_quarter(OTN_SUMMARY_SECTION_NEAR_DS), of_quarter(OTN_SUMMARY_PATH_NEAR_DS));
+           of_quarter(OTN_SUMMARY_UNDER + OTN_HEAD_CLEAR), of_quarter(OTN_SUMMARY_SECTION_NEAR_DS), of_quarter(OTN_SUMMARY_PATH_NEAR_DS),
+           of_quarter(OTN_SUMMARY_SECTION_FAR_SUM), of_quarter(OTN_SUMMARY_PATH_FAR_SUM));
     memset(quarter, 0, sizeof quarter);
 }
 

@@ -13,7 +13,7 @@
 
    The calls keep nothing between them: no global state, no allocation, no lock; the archive needs memcpy and nothing else. Two
    supervisors may be called at the same time, one supervisor may not. A supervisor may be copied, stored and moved between machines
-   as bytes.
+   as bytes. One that was stored before there were sums of the far end's violations has 2620 bytes, and is 17 by its length.
 
    Stack: no call takes more than OTN_STACK_BYTES. Measured by tests/card.c on x86-64, which prints what each call takes, and fails
    where one takes more than its own bound there. */
@@ -27,13 +27,13 @@
 extern "C" {
 #endif
 
-#define OTN_SUPERVISOR_BYTES 2620
+#define OTN_SUPERVISOR_BYTES 2652
 #define OTN_OVERHEAD_BYTES 64
-#define OTN_RECORD_BYTES 176
-#define OTN_SUMMARY_BYTES 168
+#define OTN_RECORD_BYTES 208
+#define OTN_SUMMARY_BYTES 184
 #define OTN_TRACE_BYTES 64
 #define OTN_NAMES_BYTES 32
-#define OTN_STACK_BYTES 1024
+#define OTN_STACK_BYTES 1088
 #define OTN_LEVELS 6
 
 /* Refusals, in the order in which they are checked: OTN_BAD_SUPERVISOR or OTN_BAD_SUMMARY first, then by number. */
@@ -117,13 +117,19 @@ uint64_t otn_step_levels(uint8_t *sup, size_t sup_len, const uint8_t *overhead, 
 /* A mark: closes the open second, and reports the one before it, which was pending until now. So a second is reported one mark late:
    the first mark reports none, answers 0 and leaves the record alone; each later one has otn_reported(answer), and fills the record.
 
-   The record is 44 little-endian 32-bit words: 20 of line, section and path (enum otn_figure below), then four of each level 1 to 6
+   The record is 52 little-endian 32-bit words: 22 of line, section and path (enum otn_figure below), then five of each level 1 to 6
    (enum otn_level_figure), zeros where it is not provisioned. A record of another length gets the first bytes that it has room for,
-   and bytes beyond 176 are left alone.
+   and bytes beyond 208 are left alone.
+
+   The five of section, path and each level are its errored blocks near and far, its near and far DS, and the sum of the violations
+   that its far end told: a frame whose BEI is 1 to 8 has a far block, and that number is added to the sum; BEI 0 and 9 to 15, 1011 with
+   them, is no block and adds nothing. Where no block is counted nothing is added: under SSF, in path and levels under dAIS, dOCI and
+   dLCK, in a level under dLTC; dTIM stops neither. So in each record far blocks <= sum <= 8 times far blocks, and no sum is above
+   3,200,000.
 
    An alignment error voids figures of its own second and of the one before: where dIAE stood in some frame of the reported second or
-   of the one just closed, the section's four are 0; where dBIAE did, its two of the far end. A level's likewise, by its own dIAE and
-   dBIAE. Number, frames, heads and the path's figures are never voided.
+   of the one just closed, the section's five are 0; where dBIAE did, its three of the far end: blocks, DS and sum. A level's likewise,
+   by its own dIAE and dBIAE. Number, frames, heads and the path's figures are never voided.
 
    Refuses 17, then 4. A refused mark leaves the pending second pending. */
 uint64_t otn_mark(uint8_t *sup, size_t sup_len, uint8_t *record, size_t record_len);
@@ -145,23 +151,24 @@ uint64_t otn_level_report(const uint8_t *sup, size_t sup_len, uint8_t level);
 uint64_t otn_level_trace(const uint8_t *sup, size_t sup_len, uint8_t level, uint8_t *out, size_t out_len);
 
 /* Summaries, for quarter-hours and days. A summary tells of up to 86,400 seconds in a row: the number of the first one, how many they
-   are, and their figures added up, DS as the number of seconds that have it; no tandem level's. It is 21 little-endian 64-bit words
-   (enum otn_summary_figure below) in a buffer of OTN_SUMMARY_BYTES that the caller owns; no supervisor knows of it. 168 zeros are
+   are, and their figures added up, DS as the number of seconds that have it; no tandem level's. It is 23 little-endian 64-bit words
+   (enum otn_summary_figure below) in a buffer of OTN_SUMMARY_BYTES that the caller owns; no supervisor knows of it. 184 zeros are
    the empty summary, which has no second.
 
    What both calls refuse as 26 is a summary with a length above 86,400, a first second of 0 though it has seconds or another one
-   though it has none, a last second above 4,294,967,295, a number of DS above the length, or frames, blocks or frames under a head
-   above 400,000 times the length. That the heads add up to the frames is not asked.
+   though it has none, a last second above 4,294,967,295, a number of DS above the length, frames, blocks or frames under a head
+   above 400,000 times the length, or a sum of violations above 3,200,000 times the length. That the heads add up to the frames is not
+   asked, nor that a sum lies between the far blocks and eight times them.
 
-   An output of another length than 168 gets the first bytes that it has room for, and bytes beyond 168 are left alone. */
+   An output of another length than 184 gets the first bytes that it has room for, and bytes beyond 184 are left alone. */
 
-/* The summary of one second, from the record that otn_mark or otn_pending filled: of its first 80 bytes, and no other is looked at.
-   Refuses 26: the record has fewer bytes, or is none of a reported second: number 0, a DS above 1, or a count or head above 400,000.
-   A record that nothing was reported into is not to be handed in; ask otn_reported. */
+/* The summary of one second, from the record that otn_mark or otn_pending filled: of its first 88 bytes, and no other is looked at.
+   Refuses 26: the record has fewer bytes, or is none of a reported second: number 0, a DS above 1, a count or head above 400,000, or a
+   sum above 3,200,000. A record that nothing was reported into is not to be handed in; ask otn_reported. */
 uint64_t otn_summary(const uint8_t *record, size_t record_len, uint8_t *out, size_t out_len);
 
 /* Two summaries joined: the earlier one's seconds and the later one's. The empty summary follows on from any, and any from it. Both
-   are only read, and may be the same bytes; out overlaps neither. Refuses 26 (one of the two has not 168 bytes, or is no summary),
+   are only read, and may be the same bytes; out overlaps neither. Refuses 26 (one of the two has not 184 bytes, or is no summary),
    then 20, then 21.
 
    Quarter-hour q, from 0, is seconds 900q + 1 to 900q + 900. Keep one summary, empty at first; join each reported second to it; it is
@@ -250,17 +257,19 @@ static inline unsigned otn_path_abei(uint64_t report) { return (unsigned)(report
 
 /* The figures of a reported second, read from a record of OTN_RECORD_BYTES. */
 enum otn_figure {
-    OTN_SECOND = 0,       /* its number, from 1 */
+    OTN_SECOND = 0,           /* its number, from 1 */
     OTN_FRAMES = 1,
-    OTN_UNDER = 2,        /* OTN_UNDER + head: frames under the head, 0 to 9 */
+    OTN_UNDER = 2,            /* OTN_UNDER + head: frames under the head, 0 to 9 */
     OTN_SECTION_NEAR = 12,
     OTN_SECTION_FAR = 13,
     OTN_SECTION_NEAR_DS = 14,
     OTN_SECTION_FAR_DS = 15,
-    OTN_PATH_NEAR = 16,
-    OTN_PATH_FAR = 17,
-    OTN_PATH_NEAR_DS = 18,
-    OTN_PATH_FAR_DS = 19
+    OTN_SECTION_FAR_SUM = 16, /* BEI numbers of its far blocks, added up */
+    OTN_PATH_NEAR = 17,
+    OTN_PATH_FAR = 18,
+    OTN_PATH_NEAR_DS = 19,
+    OTN_PATH_FAR_DS = 20,
+    OTN_PATH_FAR_SUM = 21
 };
 
 static inline uint32_t otn_figure(const uint8_t *record, unsigned figure) {
@@ -268,16 +277,17 @@ static inline uint32_t otn_figure(const uint8_t *record, unsigned figure) {
     return (uint32_t)b[0] | (uint32_t)b[1] << 8 | (uint32_t)b[2] << 16 | (uint32_t)b[3] << 24;
 }
 
-/* The four figures of a level, 1 to 6, in the same record. */
+/* The five figures of a level, 1 to 6, in the same record. */
 enum otn_level_figure {
     OTN_LEVEL_NEAR = 0,
     OTN_LEVEL_FAR = 1,
     OTN_LEVEL_NEAR_DS = 2,
-    OTN_LEVEL_FAR_DS = 3
+    OTN_LEVEL_FAR_DS = 3,
+    OTN_LEVEL_FAR_SUM = 4
 };
 
 static inline uint32_t otn_level_figure(const uint8_t *record, unsigned level, unsigned figure) {
-    return otn_figure(record, 20 + 4 * (level - 1) + figure);
+    return otn_figure(record, 22 + 5 * (level - 1) + figure);
 }
 
 /* The figures of a summary, read from its OTN_SUMMARY_BYTES. */
@@ -290,10 +300,12 @@ enum otn_summary_figure {
     OTN_SUMMARY_SECTION_FAR = 14,
     OTN_SUMMARY_SECTION_NEAR_DS = 15,  /* how many seconds are near-end defect seconds; so with the others */
     OTN_SUMMARY_SECTION_FAR_DS = 16,
-    OTN_SUMMARY_PATH_NEAR = 17,
-    OTN_SUMMARY_PATH_FAR = 18,
-    OTN_SUMMARY_PATH_NEAR_DS = 19,
-    OTN_SUMMARY_PATH_FAR_DS = 20
+    OTN_SUMMARY_SECTION_FAR_SUM = 17,  /* the seconds' sums, added up */
+    OTN_SUMMARY_PATH_NEAR = 18,
+    OTN_SUMMARY_PATH_FAR = 19,
+    OTN_SUMMARY_PATH_NEAR_DS = 20,
+    OTN_SUMMARY_PATH_FAR_DS = 21,
+    OTN_SUMMARY_PATH_FAR_SUM = 22
 };
 
 static inline uint64_t otn_summary_figure(const uint8_t *summary, unsigned figure) {

@@ -14,8 +14,8 @@
  *   R  len(2) record  room(2) fill                                                    otn_summary
  *   J  len(2) earlier  len(2) later  room(2) fill                                     otn_join
  *   Z                                                                                 write out what is gathered
- * sup is one byte: 0 the supervisor; 1 it less its last byte; 2 with a byte more; 3 none of it; 4 its right length, all FF bytes; 5 to 47 it,
- * with number sup - 5 of the pending second's 43, which are its last 172 bytes, one beyond its range.
+ * sup is one byte: 0 the supervisor; 1 it less its last byte; 2 with a byte more; 3 none of it; 4 its right length, all FF bytes; 5 to 55 it,
+ * with number sup - 5 of the pending second's 51, which are its last 204 bytes, one beyond its range.
  * Answer: the word (8), a byte of complaints (0: none), and for M, Q, T, U, R and J the lent buffer as it is after the call. */
 #include "otn.h"
 #include <stdio.h>
@@ -23,7 +23,7 @@
 #include <string.h>
 #include <unistd.h>
 
-enum { GUARD = 33, PENDING = 43 }; /* odd, so that no lent buffer is aligned; and how many numbers the pending second has */
+enum { GUARD = 33, PENDING = 51 }; /* odd, so that no lent buffer is aligned; and how many numbers the pending second has */
 enum { INPUT_CHANGED = 1, GUARD_BROKEN = 2, SUPERVISOR_CHANGED = 4, BUFFER_CHANGED = 8 };
 
 static uint8_t in[1 << 16], out[1 << 16];
@@ -153,7 +153,8 @@ int main(void)
         if (which == 4) memset(s->bytes, 0xFF, s->len);
         if (which >= 5) {
             const int n = which - 5;
-            const uint32_t v = n >= 11 && (n - 11) % 4 >= 2 ? 2 : 400001; /* DS; frames and blocks */
+            const int of = n < 11 ? 0 : (n - 11) % 5; /* of a group of five: two counts of blocks, two DS, the sum; frames and heads before them */
+            const uint32_t v = of < 2 ? 400001 : of < 4 ? 2 : 3200001;
             memcpy(s->bytes, right.bytes, s->len);
             for (int i = 0; i < 4; i++) s->bytes[s->len - 4 * PENDING + 4 * n + i] = (uint8_t)(v >> 8 * i);
         }

@@ -9,8 +9,10 @@
  *   - an accepted frame answers nothing in bits 0 to 7 and 56 to 63 and a head of 0 to 9, a level's report bits 8 to 27 alone, a mark and
  *     otn_pending bit 8 alone, any other call 0; and it leaves a supervisor that is accepted again;
  *   - what is lent to be read is not written, nor is a record where bit 8 does not stand;
- *   - the pending second's 43 numbers are the supervisor's last 172 bytes: any in its range is accepted and told by otn_pending, one beyond it
+ *   - the pending second's 51 numbers are the supervisor's last 204 bytes: any in its range is accepted and told by otn_pending, one beyond it
  *     is refused with 17;
+ *   - in the card's supervisor, of whose bytes docs/SUPERVISOR.md tells, a sum of the open second may be anything up to 3,200,000, and a far block
+ *     adds its number to it up to that and no further; one beyond it is refused with 17;
  *   - otn_summary and otn_join answer what plain arithmetic gives, refusal and bytes, as far as the output has room; a tenth as many calls more.
  * The supervisors: fresh ones stepped on, ones with some bytes changed (these go on too, if accepted), and noise of any length. */
 #define _DEFAULT_SOURCE
@@ -21,7 +23,7 @@
 #include <string.h>
 #include <sys/mman.h>
 
-enum { PAGE = 4096, PAGES = 8, BESIDE = 128, SUP = OTN_SUPERVISOR_BYTES, MOST = 2 * SUP + 200, PENDING = 43, SUMMARY = OTN_SUMMARY_BYTES };
+enum { PAGE = 4096, PAGES = 8, BESIDE = 128, SUP = OTN_SUPERVISOR_BYTES, MOST = 2 * SUP + 200, PENDING = 51, SUMMARY = OTN_SUMMARY_BYTES };
 
 static uint64_t state;
 static uint64_t next(void)
@@ -73,7 +75,7 @@ static int around(const struct lent *l)
 }
 
 enum { FRESH, LEVEL, STEP, STEP_LEVELS, MARK, PENDING_SECOND, TRACE, LEVEL_REPORT, LEVEL_TRACE, ORDERS };
-static uint64_t calls, answered[20], traces_read, level_traces_read, told, pending_tried;
+static uint64_t calls, answered[20], traces_read, level_traces_read, told, pending_tried, sums_tried, sums_full;
 static uint8_t count;
 static uint64_t seed;
 static void fail(const char *call, uint64_t answer, const char *what)
@@ -226,6 +228,13 @@ static uint64_t call(uint8_t *sup, size_t len, int sound, int order)
     return answer;
 }
 
+static uint32_t word(const uint8_t *at) { return at[0] | at[1] << 8 | at[2] << 16 | (uint32_t)at[3] << 24; }
+
+static void put_word(uint8_t *at, uint32_t v)
+{
+    for (int i = 0; i < 4; i++) at[i] = (uint8_t)(v >> 8 * i);
+}
+
 /* One number of the pending second in its range or beyond it, in a copy of a sound supervisor. What a level that is not provisioned shows is
  * left open. */
 static void pending_number(const uint8_t *sound)
@@ -233,40 +242,73 @@ static void pending_number(const uint8_t *sound)
     static uint8_t other[SUP];
     uint8_t record[OTN_RECORD_BYTES] = {0};
     const unsigned n = (unsigned)below(PENDING);
-    const uint32_t greatest = n >= 11 && (n - 11) % 4 >= 2 ? 1 : 400000; /* DS; frames and blocks */
+    const unsigned of = n < 11 ? 0 : (n - 11) % 5; /* of a group: two counts of blocks, two DS, the sum; frames and heads before them */
+    const uint32_t greatest = of < 2 ? 400000 : of < 4 ? 1 : 3200000;
     const uint32_t v = below(2) ? greatest + (uint32_t)below(2) : below(2) ? (uint32_t)below(greatest + 1) : (uint32_t)(next() >> below(64));
     memcpy(other, sound, SUP);
-    for (int i = 0; i < 4; i++) other[SUP - 4 * PENDING + 4 * n + i] = (uint8_t)(v >> 8 * i);
+    put_word(other + SUP - 4 * PENDING + 4 * n, v);
     const uint64_t answer = otn_pending(other, SUP, record, sizeof record);
     calls++, pending_tried++;
     if ((answer & 255) != (v > greatest ? 17 : 0)) fail("otn_pending", answer, "a pending number's range is another");
-    const uint8_t *at = record + 4 * (n + 1);
-    if (answer >> 8 && n < 19 && (uint32_t)(at[0] | at[1] << 8 | at[2] << 16 | (uint32_t)at[3] << 24) != v)
-        fail("otn_pending", answer, "a pending number is told otherwise");
+    if (answer >> 8 && n < 21 && word(record + 4 * (n + 1)) != v) fail("otn_pending", answer, "a pending number is told otherwise");
 }
 
-/* What number i of a summary may be at most for each second: a DS, or a count or head. */
-static uint64_t most(int i) { return i == 15 || i == 16 || i == 19 || i == 20 ? 1 : 400000; }
+/* One sum of the open second of the card's supervisor, in its range or beyond it, in a copy of a sound one, and then a frame with BEI 8 everywhere. In the 32
+ * bytes that a layer's state begins with the sum is at 20, the far blocks at 28. The stand-in keeps them elsewhere. */
+static void open_sum(const uint8_t *sound)
+{
+    static uint8_t other[SUP];
+    uint8_t overhead[64], record[OTN_RECORD_BYTES] = {0};
+    if (SUP != 2652) return;
+    const unsigned party = (unsigned)below(8); /* section, path, TCM1 to TCM6 */
+    const unsigned at = party < 2 ? 144 + 288 * party : 752 + 288 * (party - 2);
+    const uint32_t v = below(2) ? 3200002 - (uint32_t)below(16) : below(2) ? (uint32_t)below(3200001) : (uint32_t)(next() >> below(64));
+    memcpy(other, sound, SUP);
+    put_word(other + at + 20, v);
+    const uint32_t far = word(other + at + 28);
+    memset(overhead, 0x81, sizeof overhead);
+    const uint64_t answer = otn_step(other, SUP, overhead, sizeof overhead, 0, 0, 0);
+    calls++, sums_tried++;
+    if ((answer & 255) == 4) return; /* a full second */
+    if ((answer & 255) != (v > 3200000 ? 17 : 0)) fail("otn_step", answer, "a sum's range is another");
+    if (answer & 255) return;
+    const uint32_t blocks = word(other + at + 28) - far, sum = word(other + at + 20);
+    const uint32_t due = blocks == 0 ? v : v > 3200000 - 8 ? 3200000 : v + 8;
+    if (blocks > 1 || sum != due) fail("otn_step", answer, "a sum has grown otherwise");
+    sums_full += blocks && due == 3200000;
+    if (otn_mark(other, SUP, record, sizeof record) & 255) return; /* no more seconds */
+    const uint64_t pending = otn_pending(other, SUP, record, sizeof record);
+    const uint32_t shown = word(record + 4 * (16 + 5 * party)); /* 0 where it is voided, or the level is not provisioned */
+    calls += 2;
+    if (pending != 256 || (shown != 0 && shown != sum)) fail("otn_pending", pending, "a sum is told otherwise");
+}
 
-static int valid(const uint64_t s[21])
+/* What number i of a summary may be at most for each second: a count or head, a DS, or a sum. */
+static uint64_t most(int i)
+{
+    const int of = i < 13 ? 0 : (i - 13) % 5;
+    return of < 2 ? 400000 : of < 4 ? 1 : 3200000;
+}
+
+static int valid(const uint64_t s[23])
 {
     if (s[1] > 86400 || s[0] > UINT32_MAX) return 0; /* nothing below overflows then */
     int good = (s[0] == 0) == (s[1] == 0) && s[0] + s[1] <= (uint64_t)UINT32_MAX + 1;
-    for (int i = 2; i < 21; i++) good &= s[i] <= most(i) * s[1];
+    for (int i = 2; i < 23; i++) good &= s[i] <= most(i) * s[1];
     return good;
 }
 
 /* A summary from first on, or from anywhere where that is 0; mostly a valid one. */
-static void any_summary(uint64_t s[21], uint64_t first)
+static void any_summary(uint64_t s[23], uint64_t first)
 {
     const uint64_t length = below(8) == 0 ? 0 : below(4) == 0 ? 86400 : 1 + below(below(2) ? 86400 : 1000);
-    memset(s, 0, 21 * sizeof *s);
+    memset(s, 0, 23 * sizeof *s);
     if (length) {
         s[0] = first ? first : below(2) ? 1 + below(UINT32_MAX) : UINT32_MAX + 1ull - length;
         s[1] = length;
     }
-    for (int i = 2; i < 21; i++) s[i] = below(2) ? below(most(i) * length + 1) : below(2) ? most(i) * length : 0;
-    const int i = (int)below(21);
+    for (int i = 2; i < 23; i++) s[i] = below(2) ? below(most(i) * length + 1) : below(2) ? most(i) * length : 0;
+    const int i = below(4) ? (int)below(23) : below(2) ? 17 : 22; /* more often a sum */
     if (below(6) == 0) s[i] = below(2) ? next() >> below(64) : s[i] + 1;
 }
 
@@ -290,28 +332,28 @@ static uint64_t lent_number(const struct lent *l, int at, unsigned width)
 static uint64_t summed[27]; /* by answer */
 
 /* otn_summary of a record. */
-static unsigned summary_of_record(uint64_t sum[21])
+static unsigned summary_of_record(uint64_t sum[23])
 {
-    uint64_t figures[44];
+    uint64_t figures[52];
     figures[0] = below(8) ? 1 + below(UINT32_MAX) : 0;
-    for (int i = 1; i < 44; i++) figures[i] = below(120) ? below(most(i + 1) + 1) : below(2) ? most(i + 1) + below(2) : next();
-    lend_numbers(&a_lent, figures, 44, 4);
-    if (a_lent.len < 80) return 26;
-    for (int i = 0; i < 20; i++) sum[i ? i + 1 : 0] = lent_number(&a_lent, i, 4);
+    for (int i = 1; i < 52; i++) figures[i] = below(120) ? below(most(i + 1) + 1) : below(2) ? most(i + 1) + below(2) : next();
+    lend_numbers(&a_lent, figures, 52, 4);
+    if (a_lent.len < 88) return 26;
+    for (int i = 0; i < 22; i++) sum[i ? i + 1 : 0] = lent_number(&a_lent, i, 4);
     sum[1] = 1;
     return valid(sum) ? 0 : 26;
 }
 
 /* otn_join of two summaries, of which the later one mostly follows on. */
-static unsigned joined_of_two(uint64_t sum[21])
+static unsigned joined_of_two(uint64_t sum[23])
 {
-    uint64_t a[21], b[21];
+    uint64_t a[23], b[23];
     any_summary(a, 0);
     const uint64_t next_first = a[0] + a[1];
     any_summary(b, next_first <= UINT32_MAX && below(4) ? next_first + (below(8) ? 0 : below(3) - 1) : 0);
-    lend_numbers(&a_lent, a, 21, 8), lend_numbers(&b_lent, b, 21, 8);
+    lend_numbers(&a_lent, a, 23, 8), lend_numbers(&b_lent, b, 23, 8);
     if (a_lent.len != SUMMARY || b_lent.len != SUMMARY) return 26;
-    for (int i = 0; i < 21; i++) {
+    for (int i = 0; i < 23; i++) {
         a[i] = lent_number(&a_lent, i, 8), b[i] = lent_number(&b_lent, i, 8);
         sum[i] = a[i] + b[i];
     }
@@ -324,7 +366,7 @@ static void sums(void)
 {
     const int join = (int)below(3);
     const char *name = join ? "otn_join" : "otn_summary";
-    uint64_t sum[21];
+    uint64_t sum[23];
     calls++;
     lend(&b_lent, NULL, 0);
     const unsigned expected = join ? joined_of_two(sum) : summary_of_record(sum);
@@ -359,6 +401,8 @@ int main(int argc, char **argv)
                     for (uint64_t n = below(10); n; n--) call(sound, SUP, 1, LEVEL);
             } else if (o < 8)
                 pending_number(sound);
+            else if (o < 12)
+                open_sum(sound);
             else
                 call(sound, SUP, 1, o < 180 ? STEP : o < 350 ? STEP_LEVELS : o < 365 ? MARK : o < 370 ? LEVEL : PENDING_SECOND + (int)below(4));
         } else if (sort < 90) { /* a changed one, and on with it */
@@ -382,8 +426,8 @@ int main(int argc, char **argv)
     }
     printf("soak: seed %" PRIu64 ", %" PRIu64 " calls, %" PRIu64 " changed supervisors (%" PRIu64 " calls accepted on them), %" PRIu64
            " traces and %" PRIu64 " of levels read, %" PRIu64 " seconds told, %" PRIu64
-           " numbers of a pending second tried\nanswers 0 to 19:",
-           seed, calls, mutated, mutated_accepted, traces_read, level_traces_read, told, pending_tried);
+           " numbers of a pending second tried, %" PRIu64 " sums of the open one, %" PRIu64 " of them up to the most\nanswers 0 to 19:",
+           seed, calls, mutated, mutated_accepted, traces_read, level_traces_read, told, pending_tried, sums_tried, sums_full);
     for (int i = 0; i < 20; i++) printf(" %" PRIu64, answered[i]);
     for (uint64_t n = wanted / 10; n; n--) sums();
     printf("\n%" PRIu64 " summaries and joinings: accepted %" PRIu64 ", 20 %" PRIu64 ", 21 %" PRIu64 ", 26 %" PRIu64 "\n", wanted / 10,

@@ -166,6 +166,7 @@ static void tandem(struct plain_tandem *v, const uint8_t *b, unsigned ssf, unsig
     if (!stopped) {
         l->near += violations > 0;
         l->far += bei - 1u < 8;
+        l->sum += bei - 1u < 8 ? bei : 0;
     }
     l->near_ds |= stopped || tim;
     l->far_ds |= l->bdi.stands;
@@ -242,10 +243,12 @@ static inline uint64_t step(struct plain *p, const uint8_t *o, size_t len, uint8
     if (!ssf) {
         s->near += sm > 0;
         s->far += sbei - 1u < 8;
+        s->sum += sbei - 1u < 8 ? sbei : 0;
     }
     if (!above) {
         t->near += pm > 0;
         t->far += pbei - 1u < 8;
+        t->sum += pbei - 1u < 8 ? pbei : 0;
     }
     s->near_ds |= ssf || stim;
     t->near_ds |= above || ptim;
@@ -283,7 +286,7 @@ uint64_t plain_step_levels(struct plain *p, const uint8_t *o, size_t len, uint8_
     return step(p, o, len, flags, sm, pm, tcm);
 }
 
-uint64_t plain_pending(const struct plain *p, uint32_t record[44])
+uint64_t plain_pending(const struct plain *p, uint32_t record[52])
 {
     if (p->closed == 0) return 0;
     record[0] = p->closed;
@@ -291,26 +294,26 @@ uint64_t plain_pending(const struct plain *p, uint32_t record[44])
     return PLAIN_TOLD;
 }
 
-/* What stood in the second just closed voids the four figures of the one before. */
-static inline void revise(uint32_t four[4], unsigned iae, unsigned biae)
+/* What stood in the second just closed voids the five figures of the one before. */
+static inline void revise(uint32_t five[5], unsigned iae, unsigned biae)
 {
-    if (iae) four[0] = four[2] = 0;
-    if (iae || biae) four[1] = four[3] = 0;
+    if (iae) five[0] = five[2] = 0;
+    if (iae || biae) five[1] = five[3] = five[4] = 0;
 }
 
-uint64_t plain_mark(struct plain *p, uint32_t record[44])
+uint64_t plain_mark(struct plain *p, uint32_t record[52])
 {
     if (p->closed == UINT32_MAX) return 4;
     const uint64_t told = plain_pending(p, record);
     struct plain_layer *s = &p->layer[0];
     if (told) revise(record + 12, p->iae_stood, p->biae_stood);
     if (p->iae_stood) s->near = s->near_ds = 0;
-    if (p->iae_stood || p->biae_stood) s->far = s->far_ds = 0;
+    if (p->iae_stood || p->biae_stood) s->far = s->far_ds = s->sum = 0;
     for (int i = 0; i < 6; i++) {
         struct plain_tandem *v = &p->level[i];
-        if (told) revise(record + 20 + 4 * i, v->iae_stood, v->biae_stood);
+        if (told) revise(record + 22 + 5 * i, v->iae_stood, v->biae_stood);
         if (v->iae_stood) v->layer.near = v->layer.near_ds = 0;
-        if (v->iae_stood || v->biae_stood) v->layer.far = v->layer.far_ds = 0;
+        if (v->iae_stood || v->biae_stood) v->layer.far = v->layer.far_ds = v->layer.sum = 0;
         v->iae_stood = v->biae_stood = 0;
     }
     p->closed++;
@@ -318,12 +321,12 @@ uint64_t plain_mark(struct plain *p, uint32_t record[44])
     memcpy(p->pending + 1, p->heads, sizeof p->heads);
     for (int i = 0; i < 2 + 6; i++) {
         struct plain_layer *l = i < 2 ? &p->layer[i] : &p->level[i - 2].layer;
-        uint32_t *r = p->pending + 11 + 4 * i;
+        uint32_t *r = p->pending + 11 + 5 * i;
         if (i < 2 || p->given >> (i - 2) & 1) { /* otherwise zeros stay */
-            r[0] = l->near, r[1] = l->far, r[2] = l->near_ds, r[3] = l->far_ds;
+            r[0] = l->near, r[1] = l->far, r[2] = l->near_ds, r[3] = l->far_ds, r[4] = l->sum;
             filter(&l->deg, l->near >= l->degthr, l->degm);
         }
-        l->near = l->far = l->near_ds = l->far_ds = 0;
+        l->near = l->far = l->near_ds = l->far_ds = l->sum = 0;
     }
     p->frames = p->iae_stood = p->biae_stood = 0;
     memset(p->heads, 0, sizeof p->heads);
@@ -361,34 +364,35 @@ uint64_t plain_level_trace(const struct plain *p, uint8_t level, uint8_t *out, s
     return 0;
 }
 
-/* Whether 21 numbers are a summary: every bound is of the length, so that an empty one is all zeros. */
-static int summary_in_range(const uint64_t s[21])
+/* Whether 23 numbers are a summary: every bound is of the length, so that an empty one is all zeros. */
+static int summary_in_range(const uint64_t s[23])
 {
     const uint64_t first = s[0], length = s[1];
     if (length > 86400 || (first == 0) != (length == 0)) return 0;
     if (first > UINT32_MAX + 1ull - length) return 0; /* the last second */
-    for (int i = 2; i < 21; i++) {
-        const uint64_t most = i >= 13 && (i - 13) % 4 >= 2 ? 1 : 400000; /* DS; frames, heads and blocks */
+    for (int i = 2; i < 23; i++) {
+        const int which = i < 13 ? 0 : (i - 13) % 5;
+        const uint64_t most = which == 4 ? 3200000 : which >= 2 ? 1 : 400000; /* sum; DS; frames, heads and blocks */
         if (s[i] > most * length) return 0;
     }
     return 1;
 }
 
-uint64_t plain_summary(const uint32_t record[20], uint64_t summary[21])
+uint64_t plain_summary(const uint32_t record[22], uint64_t summary[23])
 {
-    uint64_t s[21] = {record[0], 1};
-    for (int i = 1; i < 20; i++) s[i + 1] = record[i];
+    uint64_t s[23] = {record[0], 1};
+    for (int i = 1; i < 22; i++) s[i + 1] = record[i];
     if (!summary_in_range(s)) return 26;
     memcpy(summary, s, sizeof s);
     return 0;
 }
 
-uint64_t plain_join(const uint64_t earlier[21], const uint64_t later[21], uint64_t joined[21])
+uint64_t plain_join(const uint64_t earlier[23], const uint64_t later[23], uint64_t joined[23])
 {
     if (!summary_in_range(earlier) || !summary_in_range(later)) return 26;
     if (earlier[1] + later[1] > 86400) return 20;
     if (earlier[1] && later[1] && later[0] != earlier[0] + earlier[1]) return 21;
     joined[0] = earlier[1] ? earlier[0] : later[0];
-    for (int i = 1; i < 21; i++) joined[i] = earlier[i] + later[i];
+    for (int i = 1; i < 23; i++) joined[i] = earlier[i] + later[i];
     return 0;
 }

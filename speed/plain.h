@@ -37,6 +37,7 @@ struct plain_layer {
     struct plain_filter bdi, deg;
     uint8_t near_ds, far_ds;
     uint32_t near, far;
+    uint32_t sum; /* of the far end's violations */
     /* provisioning */
     uint32_t degthr;
     uint8_t degm, mode, dis, acts;
@@ -68,8 +69,8 @@ struct plain {
     uint8_t iae_stood, biae_stood;
     uint32_t frames, heads[10];
     uint32_t closed;
-    /* the second closed last, where there is one: frames, heads, then four figures of section, path and each level */
-    uint32_t pending[43];
+    /* the second closed last, where there is one: frames, heads, then five figures of section, path and each level */
+    uint32_t pending[51];
 };
 
 enum { PLAIN_TOLD = 1 << 8 }; /* plain_mark, plain_pending: there is a second to tell, and it is in the record */
@@ -83,14 +84,14 @@ uint64_t plain_level(struct plain *p, uint8_t level, uint32_t thr, uint8_t degm,
 uint64_t plain_step(struct plain *p, const uint8_t *overhead, size_t len, uint8_t flags, uint8_t sm, uint8_t pm);
 uint64_t plain_step_levels(struct plain *p, const uint8_t *overhead, size_t len, uint8_t flags, uint8_t sm, uint8_t pm,
                            const uint8_t tcm[6]);
-uint64_t plain_mark(struct plain *p, uint32_t record[44]);
-uint64_t plain_pending(const struct plain *p, uint32_t record[44]);
+uint64_t plain_mark(struct plain *p, uint32_t record[52]);
+uint64_t plain_pending(const struct plain *p, uint32_t record[52]);
 uint64_t plain_trace(const struct plain *p, uint8_t layer, uint8_t *out, size_t len);
 uint64_t plain_level_report(const struct plain *p, uint8_t level);
 uint64_t plain_level_trace(const struct plain *p, uint8_t level, uint8_t *out, size_t len);
 
-/* A summary is 21 numbers: first second, length, frames, heads 0 to 9, then near, far, near DS and far DS of section and path. One second's, of the
- * first twenty figures of its record; and two joined, where joined may be one of them. 26, 20 and 21 leave it alone. */
-uint64_t plain_summary(const uint32_t record[20], uint64_t summary[21]);
-uint64_t plain_join(const uint64_t earlier[21], const uint64_t later[21], uint64_t joined[21]);
+/* A summary is 23 numbers: first second, length, frames, heads 0 to 9, then near, far, near DS, far DS and sum of section and path. One second's, of
+ * the first 22 figures of its record; and two joined, where joined may be one of them. 26, 20 and 21 leave it alone. */
+uint64_t plain_summary(const uint32_t record[22], uint64_t summary[23]);
+uint64_t plain_join(const uint64_t earlier[23], const uint64_t later[23], uint64_t joined[23]);
 #endif

@@ -1,5 +1,5 @@
 /* The card's calls over plain.c, as a stand-in: the supervisor's bytes are the struct, its numbers held to their ranges. The open
- * second's counts are at most its frames; the pending one's figures have their ranges one by one, and are the last bytes, as the card's are. */
+ * second's counts are at most its frames, its sums eight times them; the pending one's figures have their ranges one by one, and are the last bytes, as the card's are. */
 #include "otn.h"
 #include "plain.h"
 #include <string.h>
@@ -13,7 +13,8 @@ static int layer_in_range(const struct plain_layer *l, uint32_t ceiling, uint32_
     const struct plain_trace_state *t = &l->trace;
     return t->gathering <= 1 && t->equal <= 3 && t->has <= 1 && t->differs <= 1 && filter_in_range(&l->bdi, 5) &&
            l->degthr >= 1 && l->degthr <= ceiling && l->degm >= 2 && l->degm <= 10 && l->mode <= 3 && l->dis <= 2 &&
-           l->acts <= 1 && filter_in_range(&l->deg, 10) && l->near_ds <= 1 && l->far_ds <= 1 && l->near <= frames && l->far <= frames;
+           l->acts <= 1 && filter_in_range(&l->deg, 10) && l->near_ds <= 1 && l->far_ds <= 1 && l->near <= frames && l->far <= frames &&
+           l->sum <= 8 * frames;
 }
 
 static int level_in_range(const struct plain_tandem *v, uint32_t ceiling, uint32_t frames)
@@ -22,10 +23,12 @@ static int level_in_range(const struct plain_tandem *v, uint32_t ceiling, uint32
            (v->stat & (v->stat - 1)) == 0 && v->iae_stood <= 1 && v->biae_stood <= 1;
 }
 
-static int pending_in_range(const uint32_t pending[43])
+static int pending_in_range(const uint32_t pending[51])
 {
-    for (int i = 0; i < 43; i++)
-        if (pending[i] > (i >= 11 && (i - 11) % 4 >= 2 ? 1 : 400000)) return 0; /* DS; frames and blocks */
+    for (int i = 0; i < 51; i++) {
+        const int which = i < 11 ? 0 : (i - 11) % 5;
+        if (pending[i] > (which == 4 ? 3200000 : which >= 2 ? 1 : 400000)) return 0; /* sum; DS; frames and blocks */
+    }
     return 1;
 }
 
@@ -95,15 +98,15 @@ uint64_t otn_step_levels(uint8_t *sup, size_t sup_len, const uint8_t *overhead, 
 }
 
 /* what the record has room for, where there is a second to tell */
-static void fill(uint64_t told, uint8_t *record, size_t record_len, const uint32_t figures[44])
+static void fill(uint64_t told, uint8_t *record, size_t record_len, const uint32_t figures[52])
 {
-    for (size_t i = 0; told && i < 176 && i < record_len; i++) record[i] = (uint8_t)(figures[i / 4] >> 8 * (i % 4));
+    for (size_t i = 0; told && i < OTN_RECORD_BYTES && i < record_len; i++) record[i] = (uint8_t)(figures[i / 4] >> 8 * (i % 4));
 }
 
 uint64_t otn_mark(uint8_t *sup, size_t sup_len, uint8_t *record, size_t record_len)
 {
     struct plain p;
-    uint32_t figures[44];
+    uint32_t figures[52];
     if (load(&p, sup, sup_len)) return 17;
     const uint64_t answer = plain_mark(&p, figures);
     if (answer & 255) return answer;
@@ -115,7 +118,7 @@ uint64_t otn_mark(uint8_t *sup, size_t sup_len, uint8_t *record, size_t record_l
 uint64_t otn_pending(const uint8_t *sup, size_t sup_len, uint8_t *record, size_t record_len)
 {
     struct plain p;
-    uint32_t figures[44];
+    uint32_t figures[52];
     if (load(&p, sup, sup_len)) return 17;
     const uint64_t answer = plain_pending(&p, figures);
     fill(answer, record, record_len, figures);
@@ -152,17 +155,17 @@ static uint64_t little(const uint8_t *bytes, int n)
 }
 
 /* what out has room for */
-static void fill_summary(uint8_t *out, size_t out_len, const uint64_t summary[21])
+static void fill_summary(uint8_t *out, size_t out_len, const uint64_t summary[23])
 {
     for (size_t i = 0; i < OTN_SUMMARY_BYTES && i < out_len; i++) out[i] = (uint8_t)(summary[i / 8] >> 8 * (i % 8));
 }
 
 uint64_t otn_summary(const uint8_t *record, size_t record_len, uint8_t *out, size_t out_len)
 {
-    uint32_t figures[20];
-    uint64_t summary[21];
-    if (record_len < 80) return 26;
-    for (int i = 0; i < 20; i++) figures[i] = (uint32_t)little(record + 4 * i, 4);
+    uint32_t figures[22];
+    uint64_t summary[23];
+    if (record_len < 88) return 26;
+    for (int i = 0; i < 22; i++) figures[i] = (uint32_t)little(record + 4 * i, 4);
     const uint64_t answer = plain_summary(figures, summary);
     if (answer == 0) fill_summary(out, out_len, summary);
     return answer;
@@ -170,9 +173,9 @@ uint64_t otn_summary(const uint8_t *record, size_t record_len, uint8_t *out, siz
 
 uint64_t otn_join(const uint8_t *earlier, size_t earlier_len, const uint8_t *later, size_t later_len, uint8_t *out, size_t out_len)
 {
-    uint64_t a[21], b[21], joined[21];
+    uint64_t a[23], b[23], joined[23];
     if (earlier_len != OTN_SUMMARY_BYTES || later_len != OTN_SUMMARY_BYTES) return 26;
-    for (int i = 0; i < 21; i++) a[i] = little(earlier + 8 * i, 8), b[i] = little(later + 8 * i, 8);
+    for (int i = 0; i < 23; i++) a[i] = little(earlier + 8 * i, 8), b[i] = little(later + 8 * i, 8);
     const uint64_t answer = plain_join(a, b, joined);
     if (answer == 0) fill_summary(out, out_len, joined);
     return answer;

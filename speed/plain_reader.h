@@ -56,13 +56,13 @@ static uint32_t word(const uint8_t *b) { return b[0] | b[1] << 8 | b[2] << 16 | 
 
 /* Reads the trace on standard input. told is handed each second that is told, the pending one last; then comes what rest prints, where it
  * is given, and R and E. */
-static void read_trace(void (*told)(const uint32_t record[44]), void (*rest)(void))
+static void read_trace(void (*told)(const uint32_t record[52]), void (*rest)(void))
 {
     static const uint8_t lengths[6] = {0, 69, 2, 81, 42, 75}; /* by kind */
     int provisioned = 0;
     unsigned uses = 0; /* the kind of its frames, 1 or 5 */
     uint64_t marks = 0, frames = 0, offset = 0, refused = 0;
-    uint32_t record[44];
+    uint32_t record[52];
     size_t left;
     while ((left = have(4)) > 0) {
         if (left < 4) {

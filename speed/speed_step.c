@@ -36,8 +36,8 @@
     uint64_t by##_plain_level(struct plain *, uint8_t, uint32_t, uint8_t, uint8_t, uint8_t, const uint8_t *, size_t);            \
     uint64_t by##_plain_step(struct plain *, const uint8_t *, size_t, uint8_t, uint8_t, uint8_t);                                \
     uint64_t by##_plain_step_levels(struct plain *, const uint8_t *, size_t, uint8_t, uint8_t, uint8_t, const uint8_t[6]);       \
-    uint64_t by##_plain_mark(struct plain *, uint32_t[44]);                                                                      \
-    uint64_t by##_plain_pending(const struct plain *, uint32_t[44]);                                                             \
+    uint64_t by##_plain_mark(struct plain *, uint32_t[52]);                                                                      \
+    uint64_t by##_plain_pending(const struct plain *, uint32_t[52]);                                                             \
     uint64_t by##_plain_level_report(const struct plain *, uint8_t);                                                             \
     uint64_t by##_plain_level_trace(const struct plain *, uint8_t, uint8_t *, size_t);
 PLAIN(base)
@@ -109,9 +109,9 @@ static double now(void)
             sum = sum * 31 + (step);                                      \
             b += 71;                                                      \
         } else {                                                          \
-            uint32_t r[44] = {0}; /* the first mark leaves it */          \
+            uint32_t r[52] = {0}; /* the first mark leaves it */          \
             sum += (mark);                                                \
-            for (int i = 0; i < 44; i++) sum = sum * 31 + r[i];           \
+            for (int i = 0; i < 52; i++) sum = sum * 31 + r[i];           \
             b += 4;                                                       \
         }                                                                 \
     }                                                                     \
@@ -186,11 +186,11 @@ static int levels_differ(void)
         } else {
             uint8_t ours[64], theirs[64];
             for (int pending = 0; pending < 2; pending++) { /* what the mark reports, and what is pending after it */
-                uint32_t figures[44] = {0};
+                uint32_t figures[52] = {0};
                 uint8_t record[OTN_RECORD_BYTES] = {0};
                 const uint64_t answer = pending ? base_plain_pending(&p, figures) : base_plain_mark(&p, figures);
                 if (answer != (pending ? otn_pending(s, sizeof s, record, sizeof record) : otn_mark(s, sizeof s, record, sizeof record))) return 1;
-                for (int i = 0; i < 44; i++)
+                for (int i = 0; i < 52; i++)
                     if (word(record + 4 * i) != figures[i]) return 1;
             }
             for (uint8_t n = 0; n < 8; n++) {
@@ -212,7 +212,7 @@ enum { ONE_FRESH, ONE_LEVEL, ONE_MARK, ONE_PENDING, ONE_TRACE, ONE_LEVEL_REPORT,
 #define CALLS(bytes, fresh, level, step_levels, mark, pending, accepted, report, level_accepted, summary, join)          \
     static uint8_t s[bytes];                                                                                             \
     const uint8_t *b = trace + 4;                                                                                        \
-    uint8_t r[176], none[OTN_SUMMARY_BYTES] = {0}, one[OTN_SUMMARY_BYTES], both[OTN_SUMMARY_BYTES];                      \
+    uint8_t r[208], none[OTN_SUMMARY_BYTES] = {0}, one[OTN_SUMMARY_BYTES], both[OTN_SUMMARY_BYTES];                      \
     uint64_t refused = FRESH(fresh, s, sizeof s);                                                                        \
     GIVE(level, s, sizeof s);                                                                                            \
     const uint8_t *o = trace + 87;                                                                                       \

@@ -14,16 +14,19 @@
 /* offsets that are written or looked at here: of the line, of what is kept of all levels, of the pending second, and within a layer's or a
    level's record */
 enum { CLOSED = 28, ALIGNMENT = 32, LOCAL = 36, SECOND = 64, RECORDS = 112, RECORD = 288, FLAGS = 688, GIVEN = 689, LEVELS = 720, HELD = 2448 };
-enum { DDEG = 7, STATE = 32, GATHERING = 33, DS = 45, STOOD = 47, NEAR = 56, FAR = 60, ACCEPTED = 64, GATHERED = 128, PREVIOUS = 192, NAMES = 256 };
+enum { DDEG = 7, STATE = 32, GATHERING = 33, DS = 45, STOOD = 47, SPARE = 49, FAR_SUM = 52, NEAR = 56, FAR = 60, ACCEPTED = 64, GATHERED = 128, PREVIOUS = 192, NAMES = 256 };
 
-/* otn_mark's and otn_pending's answer where a second is told; of its 44 words the first 12 are number, frames and heads, and HELD has all but the
-   number; then come four for each record */
-enum { TOLD = 256, COUNTS = 12, FOUR = 4 };
+/* otn_mark's and otn_pending's answer where a second is told; of its 52 words the first 12 are number, frames and heads, and HELD has all but the
+   number; then come five for each record: blocks near and far, DS near and far, the sum of the far end's violations. A second has at most FULL frames,
+   and so many blocks; a sum is at most MOST. A supervisor had OLD bytes before there were sums */
+enum { TOLD = 256, COUNTS = 12, FIVE = 5, WORDS = COUNTS + FIVE * (2 + OTN_LEVELS), FULL = 400000, MOST = 8 * FULL, OLD = 2620 };
 
 /* the records of section, path and levels 1 to 6, and where a frame has their three bytes: trace, BIP-8, status */
 enum { WATCHED = 2 + OTN_LEVELS };
 static const uint8_t field[WATCHED] = {7, 41, 38, 35, 32, 26, 23, 20};
 static size_t record_at(int i) { return (size_t)(i < 2 ? RECORDS + RECORD * i : LEVELS + RECORD * (i - 2)); }
+/* and its five of the pending second */
+static size_t held_at(int i) { return (size_t)(HELD + 4 * (COUNTS - 1 + FIVE * i)); }
 
 static int checks, failed;
 static uint8_t room[GUARD + OTN_SUPERVISOR_BYTES + GUARD];
@@ -60,8 +63,22 @@ static uint64_t all_given(uint8_t k) {
 
 static uint64_t report(uint8_t n) { return otn_level_report(sup, ALL, n); }
 
+/* In each second that a history leaves, of section, path and levels: far blocks <= their sum of violations <= 8 times them. Bytes that are put by
+   hand, while `by_hand`, need not have it so. */
+static int by_hand;
+static int between(uint32_t far, uint32_t sum) { return far <= sum && sum <= 8 * far; }
+static int bounded(const uint8_t *record) {
+    int good = 1;
+    for (unsigned i = COUNTS; i < WORDS; i += FIVE) good &= between(otn_figure(record, i + 1), otn_figure(record, i + 4));
+    return good;
+}
+
 /* the pending second, in a whole record: 1 where there is one */
-static int pending(uint8_t record[OTN_RECORD_BYTES]) { return otn_pending(sup, ALL, record, OTN_RECORD_BYTES) == TOLD; }
+static int pending(uint8_t record[OTN_RECORD_BYTES]) {
+    const int told = otn_pending(sup, ALL, record, OTN_RECORD_BYTES) == TOLD;
+    check(!told || by_hand || bounded(record), "pending, far blocks and their sum");
+    return told;
+}
 
 static uint32_t word_in(const uint8_t *bytes, size_t at) {
     return (uint32_t)bytes[at] | (uint32_t)bytes[at + 1] << 8 | (uint32_t)bytes[at + 2] << 16 | (uint32_t)bytes[at + 3] << 24;
@@ -103,10 +120,35 @@ static int mark_leaves(void) {
     return good;
 }
 
-/* a figure, unless it is voided: by dIAE at both ends, by dBIAE at the far end, as they stood in the second that the mark closes */
-static uint32_t unless(int i, int far, uint32_t figure) {
+/* the violations that a BEI tells, 0 where it tells none; and a count or sum that goes no further than its greatest */
+static uint32_t number_of(uint8_t bei) { return bei >= 1 && bei <= 8 ? bei : 0; }
+static uint32_t up_to(uint32_t n, uint32_t most) { return n < most ? n : most; }
+
+/* whether blocks of a record are not counted, as the reports after the frame have it */
+static int stopped(int i, uint64_t r) {
+    if (i == 0) return OTN_SECTION_SSF(r);
+    if (i == 1) return OTN_PATH_SSF(r) || OTN_PATH_DAIS(r) || OTN_PATH_DOCI(r) || OTN_PATH_DLCK(r);
+    r = report((uint8_t)(i - 1));
+    return OTN_TCM_SSF(r) || OTN_TCM_DLTC(r) || OTN_TCM_DAIS(r) || OTN_TCM_DOCI(r) || OTN_TCM_DLCK(r);
+}
+
+/* An accepted step counts the frame's far block and adds its number, in each record that is watched and not stopped, and does neither in another. */
+static int step_adds(uint64_t r) {
+    int good = 1;
+    for (int i = 0; i < WATCHED; i++) {
+        const size_t at = record_at(i);
+        const uint32_t more = watched(i) && !stopped(i, r) ? number_of(overhead[field[i] + 2] >> 4) : 0;
+        good &= word_at(at + FAR) == up_to(word_in(before, at + FAR) + (more > 0), FULL) && word_at(at + FAR_SUM) == up_to(word_in(before, at + FAR_SUM) + more, MOST);
+        good &= by_hand || between(word_at(at + FAR), word_at(at + FAR_SUM));
+    }
+    return good;
+}
+
+/* a figure, one of five, unless it is voided: by dIAE at both ends, by dBIAE at the far end, as they stood in the second that the mark closes */
+static int of_far(int j) { return j == OTN_LEVEL_FAR || j == OTN_LEVEL_FAR_DS || j == OTN_LEVEL_FAR_SUM; }
+static uint32_t unless(int i, int j, uint32_t figure) {
     const uint8_t *stood = before + record_at(i) + STOOD;
-    return stood[0] || (far && stood[1]) ? 0 : figure;
+    return stood[0] || (of_far(j) && stood[1]) ? 0 : figure;
 }
 
 /* The second that is closed is pending, voided by itself; the one that was is reported, voided by it too. */
@@ -116,14 +158,14 @@ static int mark_tells(uint64_t answer, const uint8_t *record, size_t len) {
     int good = answer == (closed > 0 ? TOLD : 0) && word_at(CLOSED) == closed + 1 && memcmp(sup + HELD, before + SECOND, 4 * (COUNTS - 1)) == 0;
     if (whole) good &= otn_figure(record, OTN_SECOND) == closed && memcmp(record + 4, before + HELD, 4 * (COUNTS - 1)) == 0;
     for (int i = 0; i < WATCHED; i++) {
-        const size_t at = record_at(i), held = HELD + 4 * (COUNTS - 1 + FOUR * (size_t)i);
-        const uint32_t open[FOUR] = {word_in(before, at + NEAR), word_in(before, at + FAR), before[at + DS], before[at + DS + 1]};
-        for (int j = 0; j < FOUR && watched(i); j++) {
-            good &= word_at(held + 4 * (size_t)j) == unless(i, j & 1, open[j]);
-            if (whole) good &= otn_figure(record, (unsigned)(COUNTS + FOUR * i + j)) == unless(i, j & 1, word_in(before, held + 4 * (size_t)j));
+        const size_t at = record_at(i), held = held_at(i);
+        const uint32_t open[FIVE] = {word_in(before, at + NEAR), word_in(before, at + FAR), before[at + DS], before[at + DS + 1], word_in(before, at + FAR_SUM)};
+        for (int j = 0; j < FIVE && watched(i); j++) {
+            good &= word_at(held + 4 * (size_t)j) == unless(i, j, open[j]);
+            if (whole) good &= otn_figure(record, (unsigned)(COUNTS + FIVE * i + j)) == unless(i, j, word_in(before, held + 4 * (size_t)j));
         }
     }
-    return good;
+    return good && (!whole || by_hand || bounded(record));
 }
 
 /* The path's causes, which are looked up, by their equations from what the report says of the path: with none of the four, aTSF is a dTIM
@@ -141,6 +183,7 @@ static uint64_t step(uint8_t flags, uint8_t sm, uint8_t pm) {
     uint64_t answer = otn_step(sup, ALL, overhead, OTN_OVERHEAD_BYTES, flags, sm, pm);
     check(otn_refusal(answer) ? same(0, ALL) : step_leaves(flags), "step, the bytes that it leaves");
     check(otn_refusal(answer) || path_causes(answer), "step, the path's causes");
+    check(otn_refusal(answer) || step_adds(answer), "step, the far blocks and their sums");
     return answer;
 }
 
@@ -149,6 +192,7 @@ static uint64_t step_levels(uint8_t flags, uint8_t sm, uint8_t pm, const uint8_t
     uint64_t answer = otn_step_levels(sup, ALL, overhead, OTN_OVERHEAD_BYTES, flags, sm, pm, t[0], t[1], t[2], t[3], t[4], t[5]);
     check(otn_refusal(answer) ? same(0, ALL) : step_leaves(flags), "step_levels, the bytes that it leaves");
     check(otn_refusal(answer) || path_causes(answer), "step_levels, the path's causes");
+    check(otn_refusal(answer) || step_adds(answer), "step_levels, the far blocks and their sums");
     return answer;
 }
 
@@ -328,7 +372,7 @@ static int shows_it(const uint8_t *record) {
     int good = otn_figure(record, OTN_FRAMES) == 1 && otn_figure(record, OTN_UNDER + OTN_HEAD_TSF_P) == 1;
     good &= otn_figure(record, OTN_SECTION_NEAR_DS) == 1 && otn_figure(record, OTN_PATH_NEAR_DS) == 1;
     for (unsigned n = 1; n <= OTN_LEVELS; n++)
-        for (unsigned i = 0; i < FOUR; i++) good &= otn_level_figure(record, n, i) == ((n == 2 || n == 6) && i == OTN_LEVEL_NEAR_DS);
+        for (unsigned i = 0; i < FIVE; i++) good &= otn_level_figure(record, n, i) == ((n == 2 || n == 6) && i == OTN_LEVEL_NEAR_DS);
     return good;
 }
 
@@ -341,6 +385,7 @@ static void refusals_of_mark(void) {
     REFUSES(otn_mark(sup, ALL - 1, record, WHOLE), 17, "mark, a byte less");
     REFUSES(otn_mark(sup, ALL + 1, record, WHOLE), 17, "mark, a byte more");
     REFUSES(otn_mark(sup, HELD, record, WHOLE), 17, "mark, no room for the pending second");
+    REFUSES(otn_mark(sup, OLD, record, WHOLE), 17, "mark, no room for sums");
     REFUSES(otn_mark(sup, 0, record, WHOLE), 17, "mark, no bytes");
     REFUSES(otn_mark(NULL, 0, NULL, 0), 17, "mark, NULL");
     put(CLOSED, 4, 0xffffffff);
@@ -385,6 +430,7 @@ static void refusals_of_pending(void) {
         REFUSES(otn_pending(sup, ALL - 1, record, WHOLE), 17, "pending, a byte less");
         REFUSES(otn_pending(sup, ALL + 1, record, WHOLE), 17, "pending, a byte more");
         REFUSES(otn_pending(sup, HELD, record, WHOLE), 17, "pending, no room for it");
+        REFUSES(otn_pending(sup, OLD, record, WHOLE), 17, "pending, no room for sums");
         REFUSES(otn_pending(sup, 0, record, WHOLE), 17, "pending, no bytes");
         REFUSES(otn_pending(NULL, 0, NULL, 0), 17, "pending, NULL");
         if (!marked) {
@@ -604,6 +650,7 @@ static void range(int i, int levels) {
 
 static void ranges(void) {
     uint8_t record[OTN_RECORD_BYTES], out[64];
+    by_hand = 1;
     for (int i = 0; i < NUMBERS; i++)
         for (int levels = 0; levels < 2; levels++) range(i, levels);
     for (int i = 0; i < ARRAYS; i++)
@@ -632,13 +679,58 @@ static void ranges(void) {
         }
         if (turn % 50 == 0) put(CLOSED, 4, 0);
         REFUSES(otn_pending(sup, ALL, record, sizeof record), word_at(CLOSED) ? TOLD : 0, "any state in range, its pending second");
-        if (word_at(CLOSED)) check(memcmp(record, sup + CLOSED, 4) == 0 && memcmp(record + 4, sup + HELD, 4 * (COUNTS + FOUR * 2 - 1)) == 0, "any state in range, its words");
+        if (word_at(CLOSED)) check(memcmp(record, sup + CLOSED, 4) == 0 && memcmp(record + 4, sup + HELD, 4 * (COUNTS + FIVE * 2 - 1)) == 0, "any state in range, its words");
         check(otn_refusal(step((uint8_t)(turn & 3), (uint8_t)(turn % 9), 0)) % 4 == 0, "any state in range, stepped");
         check(otn_refusal(step_levels((uint8_t)(turn & 3), (uint8_t)(turn % 9), 0, t)) % 4 == 0, "any state in range, stepped with levels");
         check(otn_refusal(mark(record, sizeof record)) % 4 == 0, "any state in range, marked");
         check(otn_trace(sup, ALL, 2, out, 64) == 11, "any state in range stays in range");
     }
     memset(overhead, 0, sizeof overhead);
+    by_hand = 0;
+}
+
+/* the sums by themselves, of section, path and levels, in the open second and in the pending one; the three bytes before an open one are spare */
+static void ranges_of_sums(void) {
+    uint8_t record[OTN_RECORD_BYTES], out[64];
+    by_hand = 1;
+    for (int i = 0; i < 2 * WATCHED; i++)
+        for (int levels = 0; levels < 2; levels++) {
+            const int held = i >= WATCHED;
+            const size_t at = held ? held_at(i - WATCHED) + 4 * OTN_LEVEL_FAR_SUM : record_at(i) + FAR_SUM;
+            for (uint32_t sum = MOST - 9; sum <= MOST; sum++) {
+                check(start(levels) == 0, "fresh");
+                put(at, 4, sum);
+                put(CLOSED, 4, 1);
+                REFUSES(otn_trace(sup, ALL, 2, out, 64), 11, "a sum in range");
+                REFUSES(otn_pending(sup, ALL, record, sizeof record), TOLD, "a sum in range, pending");
+                if (held) check(otn_figure(record, (unsigned)(COUNTS + FIVE * (i - WATCHED) + OTN_LEVEL_FAR_SUM)) == sum, "a sum in range, told");
+            }
+            for (uint32_t sum = MOST + 1; sum <= MOST + 9; sum++) {
+                put(at, 4, sum);
+                REFUSES(otn_trace(sup, ALL, 2, out, 64), 17, "a sum above its range");
+                REFUSES(mark(record, sizeof record), 17, "a sum above its range, mark");
+                REFUSES(otn_pending(sup, ALL, record, sizeof record), 17, "a sum above its range, pending");
+            }
+            put(at, 4, 0);
+            REFUSES(otn_trace(sup, ALL, 2, out, 64), 11, "a sum of 0");
+            for (size_t spare = SPARE; spare < FAR_SUM && !held; spare++)
+                for (unsigned bit = 0; bit < 8; bit++) {
+                    put(record_at(i) + spare, 1, 1u << bit);
+                    REFUSES(step(0, 0, 0), 17, "a byte before the sum");
+                    put(record_at(i) + spare, 1, 0);
+                }
+        }
+    /* a sum is full at the greatest, and stays there */
+    for (int i = 0; i < WATCHED; i++)
+        for (uint32_t less = 0; less <= 9; less++)
+            for (uint8_t bei = 0; bei < 16; bei++) {
+                check(all_given(1) == 0, "fresh, all levels");
+                put(record_at(i) + FAR_SUM, 4, MOST - less);
+                overhead[field[i] + 2] = (uint8_t)(bei << 4 | (i > 0));
+                check(otn_refusal(step(0, 0, 0)) == 0 && word_at(record_at(i) + FAR_SUM) == MOST - (number_of(bei) < less ? less - number_of(bei) : 0), "a sum that is full");
+                memset(overhead, 0, sizeof overhead);
+            }
+    by_hand = 0;
 }
 
 static void frames(void) {
@@ -650,9 +742,9 @@ static void frames(void) {
         check(otn_head(r) == OTN_HEAD_TSF_P && OTN_SECTION_SSF(r) && OTN_PATH_SSF(r) && OTN_SECTION_CSSF(r) && OTN_PATH_CSSF(r), "TSF-P");
         check(OTN_SECTION_ATSF(r) && OTN_SECTION_ABDI(r) && OTN_PATH_ATSF(r) && OTN_PATH_ABDI(r) && !OTN_CLOF(r) && !OTN_IF(r), "TSF-P, actions");
     }
-    static const uint32_t listing[20] = {1, 2, 0, 2, 0, 0, 0, 0, 0, 0, 0, 0, 0, 0, 1, 0, 0, 0, 1, 0};
+    static const uint32_t listing[22] = {1, 2, 0, 2, 0, 0, 0, 0, 0, 0, 0, 0, 0, 0, 1, 0, 0, 0, 0, 1, 0, 0};
     check(closed(record), "mark");
-    for (unsigned i = 0; i < 20; i++) check(otn_figure(record, i) == listing[i], "the listing's figures");
+    for (unsigned i = 0; i < 22; i++) check(otn_figure(record, i) == listing[i], "the listing's figures");
 
     /* (a), (b): 61 frames of zeros, then the 62nd */
     check(plain(1) == 0, "fresh");
@@ -747,10 +839,10 @@ static uint64_t counted(uint8_t flags, uint8_t sm, uint8_t pm, const uint8_t t[O
 }
 
 /* the figures of section, path and levels in the second that a mark closes, with its own discard; the rest of what is expected is 0 */
-static void closes(const uint32_t expected[44], const char *what) {
+static void closes(const uint32_t expected[WORDS], const char *what) {
     uint8_t record[OTN_RECORD_BYTES];
     int good = closed(record);
-    for (unsigned i = 0; i < 44; i++) good &= otn_figure(record, i) == expected[i];
+    for (unsigned i = 0; i < WORDS; i++) good &= otn_figure(record, i) == expected[i];
     check(good, what);
 }
 
@@ -774,7 +866,7 @@ static void levels(void) {
         check(otn_head(r) == OTN_HEAD_CLEAR && !OTN_PATH_ATSF(r), "dLTC of a level, and the path");
         check(bits == (i >= 3 ? 1u << 8 | 1u << DLTC | 1u << ATSF | 1u << CLTC : 1u << 8), "dLTC, every bit");
     }
-    closes((const uint32_t[44]){1, 5, 5, [12] = 5, [16] = 5, [20] = 2, 0, 1}, "dLTC, its second");
+    closes((const uint32_t[WORDS]){1, 5, 5, [12] = 5, [17] = 5, [22] = 2, 0, 1}, "dLTC, its second");
 
     /* 2: dIAE by STAT 010; its second is discarded, near and far, in the level alone */
     check(plain(1) == 0 && given(2) == 0, "fresh, level 2");
@@ -784,8 +876,8 @@ static void levels(void) {
         counted(0, 1, 1, ones);
         check(stands(DIAE, i, 6, 8, 2) && stands(ATSF, i, 0, 0, 2), "dIAE in frames 6 to 8");
     }
-    check(word_at(record_at(3) + NEAR) == 9 && word_at(record_at(3) + FAR) == 3, "dIAE, blocks before they are discarded");
-    closes((const uint32_t[44]){1, 9, 9, [12] = 9, [16] = 9}, "dIAE, its second");
+    check(word_at(record_at(3) + NEAR) == 9 && word_at(record_at(3) + FAR) == 3 && word_at(record_at(3) + FAR_SUM) == 3, "dIAE, blocks before they are discarded");
+    closes((const uint32_t[WORDS]){1, 9, 9, [12] = 9, [17] = 9}, "dIAE, its second");
 
     /* 3: dTIM masks dIAE and forgets dBIAE, acting or not; the STAT stays accepted, and dBDI stands on */
     for (uint8_t dis = OTN_TIM_ACTS; dis <= OTN_TIM_DEFAULT; dis++) {
@@ -802,9 +894,9 @@ static void levels(void) {
             check(stands(ATSF, i, acts, 999, 3) && otn_head(r) == 0, "dTIM of a level acts on it alone");
         }
         check(sup[record_at(4) + DS] == 1 && word_at(record_at(4) + NEAR) == 194, "dTIM, before the discard");
-        closes((const uint32_t[44]){1, 194, 194}, "dTIM after dIAE, its second");
+        closes((const uint32_t[WORDS]){1, 194, 194}, "dTIM after dIAE, its second");
         check(OTN_TCM_DTIM(report(3)) && otn_refusal(counted(0, 0, 0, ones)) == 0, "dTIM after the mark");
-        closes((const uint32_t[44]){2, 1, 1, [28] = 1, 0, 1, 1}, "dTIM, its second");
+        closes((const uint32_t[WORDS]){2, 1, 1, [32] = 1, 0, 1, 1}, "dTIM, its second");
         memset(names, 0, sizeof names);
     }
 
@@ -851,8 +943,8 @@ static void levels(void) {
             check(stands(DAIS, i, own ? 6 : 999, 999, 1) && stands(CSSF, i, own ? 6 : 999, 999, 1) && report(6) == 1 << 8, "dAIS of a level");
             check(stands(DBDI, i, 0, 0, 1), "dAIS forgets dBDI");
         }
-        closes(own ? (const uint32_t[44]){1, 8, 8, [16] = 5, [20] = 2, 0, 1, [40] = 5}
-                   : (const uint32_t[44]){1, 8, 5, [8] = 3, [16] = 2, 0, 1, [20] = 5, [40] = 5}, "dAIS, its second");
+        closes(own ? (const uint32_t[WORDS]){1, 8, 8, [17] = 5, [22] = 2, 0, 1, [47] = 5}
+                   : (const uint32_t[WORDS]){1, 8, 5, [8] = 3, [17] = 2, 0, 1, [22] = 5, [47] = 5}, "dAIS, its second");
     }
 
     /* 6: dBIAE discards the far values and leaves the near ones */
@@ -865,8 +957,9 @@ static void levels(void) {
         else counted(0, 0, 0, (const uint8_t[OTN_LEVELS]){[3] = 1});
         check(stands(DBIAE, i, 11, 11, 4) && stands(DBDI, i, 8, 11, 4) && stands(CBDI, i, 8, 11, 4), "dBIAE at the third BEI 1011");
     }
-    check(word_at(record_at(5) + NEAR) == 8 && word_at(record_at(5) + FAR) == 5 && sup[record_at(5) + DS] == 0 && sup[record_at(5) + DS + 1] == 1, "dBIAE, before the discard");
-    closes((const uint32_t[44]){1, 11, 11, [32] = 8}, "dBIAE, its second");
+    check(word_at(record_at(5) + NEAR) == 8 && word_at(record_at(5) + FAR) == 5 && word_at(record_at(5) + FAR_SUM) == 40, "dBIAE, blocks before the discard");
+    check(sup[record_at(5) + DS] == 0 && sup[record_at(5) + DS + 1] == 1, "dBIAE, DS before the discard");
+    closes((const uint32_t[WORDS]){1, 11, 11, [37] = 8}, "dBIAE, its second");
 
     /* 7: SSF forgets the STAT: dLTC again three frames after it */
     check(plain(1) == 0 && given(1) == 0, "fresh, level 1");
@@ -884,12 +977,12 @@ static void levels(void) {
     tandem(5, 0, 0x31);
     mfas = 0;
     for (int i = 0; i < 4; i++) aligned(0, 0, 0);
-    closes((const uint32_t[44]){1, 4, 4, [37] = 4}, "a level's second of otn_step");
+    closes((const uint32_t[WORDS]){1, 4, 4, [43] = 4, 0, 0, 12}, "a level's second of otn_step");
 
     /* both calls in one second, in any order */
     check(plain(1) == 0 && given(5) == 0, "fresh, level 5");
     for (int i = 0; i < 6; i++) i & 1 ? (void)aligned(0, 0, 0) : (void)counted(0, 0, 0, ones);
-    closes((const uint32_t[44]){1, 6, 6, [36] = 3, 6}, "a second of both calls");
+    closes((const uint32_t[WORDS]){1, 6, 6, [42] = 3, 6, 0, 0, 18}, "a second of both calls");
 
     /* 10: bytes and counts of a level that is not provisioned are not looked at */
     check(plain(1) == 0 && given(5) == 0, "fresh, level 5");
@@ -916,12 +1009,13 @@ static void levels(void) {
         mfas = 254;
         for (int i = 0; i < 2 + 3 * 64; i++) {
             tandem(0, 9, 1);
-            tandem(n, (uint8_t)(10 * n), 0x1a); /* BEI 1, BDI, STAT 010 */
+            tandem(n, (uint8_t)(10 * n), 0x3a); /* BEI 3, BDI, STAT 010 */
             counted(0, 0, 0, t);
         }
         for (uint8_t m = 1; m <= OTN_LEVELS; m++) {
             check(report(m) == (m == n ? 1u << 8 | 1u << DIAE | 1u << DBDI | 1u << CBDI : 1u << 8), "a level's own status");
             check(word_at(record_at(1 + m) + NEAR) == (m == n ? 194 : 0) && word_at(record_at(1 + m) + FAR) == (m == n ? 194 : 0), "a level's own blocks");
+            check(word_at(record_at(1 + m) + FAR_SUM) == (m == n ? 3 * 194 : 0), "a level's own sum");
             check(otn_level_trace(sup, ALL, m, out, 64) == 0 && out[0] == (m == n ? 10 * n : 9) && out[63] == out[0], "a level's own trace");
         }
         check(closed(record) && otn_level_figure(record, n, OTN_LEVEL_NEAR) == 0, "a level's own second");
@@ -947,7 +1041,7 @@ static void levels(void) {
         counted(0, 0, 0, none);
         check(stands(CDEG, i, 1, 2, 1) && stands(CLCK, i, 3, 3, 1) && stands(TSDEG, i, 1, 3, 1), "cDEG under dLCK");
     }
-    closes((const uint32_t[44]){5, 3, 3, [22] = 1}, "dLCK, its second");
+    closes((const uint32_t[WORDS]){5, 3, 3, [24] = 1}, "dLCK, its second");
     check(!OTN_TCM_DDEG(report(1)) && OTN_TCM_DDEG(report(3)), "dDEG ends at the second good one");
 
     /* levels are silent: line, section and path answer as without them, whatever the levels bring */
@@ -968,20 +1062,21 @@ static void levels(void) {
         check(otn_step(other, ALL, overhead, 64, flags, (uint8_t)(i % 9), (uint8_t)(i % 5)) == r, "levels are silent, the report");
         if (i % 100 == 99) {
             const uint64_t told = i > 100 ? TOLD : 0;
-            check(mark(record, sizeof record) == told && otn_mark(other, ALL, alone, sizeof alone) == told && (!told || memcmp(record, alone, 80) == 0), "levels are silent, the record");
-            for (int j = 80; j < OTN_RECORD_BYTES; j++) check(!told || alone[j] == 0, "no level, no figures");
+            check(mark(record, sizeof record) == told && otn_mark(other, ALL, alone, sizeof alone) == told && (!told || memcmp(record, alone, 88) == 0), "levels are silent, the record");
+            for (int j = 88; j < OTN_RECORD_BYTES; j++) check(!told || alone[j] == 0, "no level, no figures");
         }
-        check(memcmp(sup, other, GIVEN) == 0 && memcmp(sup + HELD, other + HELD, 76) == 0, "levels are silent, the bytes");
+        check(memcmp(sup, other, GIVEN) == 0 && memcmp(sup + HELD, other + HELD, 84) == 0, "levels are silent, the bytes");
     }
     memset(overhead, 0, sizeof overhead);
 }
 
 /* Voiding by neighbours, in the section and in each level. One of them sends what a word of letters says, a letter for a frame: p plain, d with
-   BDI, i with IAE (a level's STAT 010), b with BEI 1011, t under TSF-P; a bar is a mark. All else is plain: BEI 1 and a count of 1 everywhere.
-   The four of each second as it is told: by the mark after the next bar, the last one by otn_pending, before and after the letters behind it. */
+   BDI, i with IAE (a level's STAT 010), b with BEI 1011, t under TSF-P; a bar is a mark. All else is plain: one BEI and a count of 1 everywhere.
+   Blocks and DS of each second as it is told: by the mark after the next bar, the last one by otn_pending, before and after the letters behind it. The
+   sum is BEI times the far blocks. */
 static const struct {
     const char *frames;
-    uint32_t told[4][FOUR];
+    uint32_t told[4][FIVE - 1];
 } voided[] = {
     {"pppppppppp|iiiiippppp|pppppppppp|", {{0}, {0}, {10, 10}}},
     {"pppppppppp|iiiii", {{10, 10}}},
@@ -1000,20 +1095,23 @@ static const struct {
 };
 
 /* what is told of a second in which the others send: all frames but those under TSF-P are counted, and these make near DS */
-static int told(const uint8_t *record, unsigned second, const char *frames, int whose, const uint32_t own[FOUR]) {
+static int told(const uint8_t *record, unsigned second, const char *frames, int whose, const uint32_t own[FIVE - 1], uint8_t bei) {
     const char *end = frames;
     uint32_t failed = 0;
     for (; *end != '|'; end++) failed += *end == 't';
-    const uint32_t all = (uint32_t)(end - frames), other[FOUR] = {all - failed, all - failed, failed > 0, 0};
+    const uint32_t all = (uint32_t)(end - frames), other[FIVE - 1] = {all - failed, all - failed, failed > 0, 0};
     int good = otn_figure(record, OTN_SECOND) == second && otn_figure(record, OTN_FRAMES) == all;
     good &= otn_figure(record, OTN_UNDER) == all - failed && otn_figure(record, OTN_UNDER + OTN_HEAD_TSF_P) == failed;
-    for (int i = 0; i < WATCHED; i++)
-        for (int j = 0; j < FOUR; j++) good &= otn_figure(record, (unsigned)(COUNTS + FOUR * i + j)) == (i == whose ? own : other)[j];
+    for (int i = 0; i < WATCHED; i++) {
+        const uint32_t *of = i == whose ? own : other;
+        for (int j = 0; j < FIVE; j++) good &= otn_figure(record, (unsigned)(COUNTS + FIVE * i + j)) == (j == OTN_LEVEL_FAR_SUM ? bei * of[OTN_LEVEL_FAR] : of[j]);
+    }
     return good;
 }
 
-static void neighbours(void) {
+static void neighbours(uint8_t bei) {
     uint8_t record[OTN_RECORD_BYTES];
+    const uint8_t of_section = (uint8_t)(bei << 4), of_other = of_section | 1; /* STAT 001 */
     memset(overhead, 0, sizeof overhead);
     for (int whose = 0; whose < WATCHED; whose++)
         for (size_t c = 0; c < sizeof voided / sizeof *voided && whose != 1; c++) {
@@ -1025,18 +1123,18 @@ static void neighbours(void) {
                 if (*f == '|') {
                     const uint64_t answer = mark(record, sizeof record);
                     check(answer == (marks ? TOLD : 0), "neighbours, whether a second is reported");
-                    check(!marks || told(record, marks, second[marks - 1], whose, voided[c].told[marks - 1]), "neighbours, the second reported");
+                    check(!marks || told(record, marks, second[marks - 1], whose, voided[c].told[marks - 1], bei), "neighbours, the second reported");
                     second[++marks] = f + 1;
                     continue;
                 }
-                const uint8_t plain_of_it = whose == 0 ? 0x10 : 0x11;
-                const uint8_t status = *f == 'd' ? plain_of_it | 8 : *f == 'i' ? (whose == 0 ? 0x14 : 0x12) : *f == 'b' ? plain_of_it | 0xb0 : plain_of_it;
-                send(0, whose == 0 ? status : 0x10, 0x11);
-                tandem(0, 0, 0x11);
+                const uint8_t plain_of_it = whose == 0 ? of_section : of_other;
+                const uint8_t status = *f == 'd' ? plain_of_it | 8 : *f == 'i' ? of_section | (whose == 0 ? 4 : 2) : *f == 'b' ? 0xb0 | (whose > 0) : plain_of_it;
+                send(0, whose == 0 ? status : of_section, of_other);
+                tandem(0, 0, of_other);
                 if (whose) tandem((unsigned)whose - 1, 0, status);
                 check(otn_refusal(step_levels(*f == 't', 1, 1, ones)) == 0, "neighbours, a frame");
             }
-            check(pending(record) && told(record, marks, second[marks - 1], whose, voided[c].told[marks - 1]), "neighbours, the pending second");
+            check(pending(record) && told(record, marks, second[marks - 1], whose, voided[c].told[marks - 1], bei), "neighbours, the pending second");
         }
 
     /* dDEG goes by the second just closed with its own discard: raised by two bad seconds, and not taken back where the later one is voided */
@@ -1046,22 +1144,172 @@ static void neighbours(void) {
         mfas = 0;
         for (unsigned n = 1; n <= 5; n++) {
             for (int i = 0; i < 10; i++) {
-                send(0, whose == 0 && n > 2 ? 0x14 : 0x10, 0x11);
-                tandem(0, 0, 0x11);
-                if (whose > 1 && n > 2) tandem((unsigned)whose - 1, 0, 0x12);
+                send(0, of_section | (whose == 0 && n > 2 ? 4 : 0), of_other);
+                tandem(0, 0, of_other);
+                if (whose > 1 && n > 2) tandem((unsigned)whose - 1, 0, of_section | 2);
                 check(otn_refusal(step_levels(0, 1, 1, ones)) == 0, "dDEG, a frame");
             }
             check(mark(record, sizeof record) == (n > 1 ? TOLD : 0), "dDEG, a mark");
-            if (n > 1) check(otn_figure(record, (unsigned)(COUNTS + FOUR * whose)) == (n < 3 || !has_iae ? 10 : 0), "dDEG, the second reported");
+            if (n > 1) check(otn_figure(record, (unsigned)(COUNTS + FIVE * whose)) == (n < 3 || !has_iae ? 10 : 0), "dDEG, the second reported");
             for (int i = 0; i < WATCHED; i++) check(sup[record_at(i) + DDEG] == (n >= 2 && (n < 4 || i != whose || !has_iae)), "dDEG, by the second just closed");
         }
     }
     memset(overhead, 0, sizeof overhead);
 }
 
-/* Summaries, as their 21 numbers. The two calls are made on lent bytes with a guard around each buffer: nothing is written but the output, of that
+/* The sums of the far end's violations. A frame in which section, path and all levels send the same: BEI, and BDI and STAT where they have it */
+static uint64_t send_bei(uint8_t flags, uint8_t bei, uint8_t status) {
+    send(0, (uint8_t)(bei << 4 | (status & 8)), (uint8_t)(bei << 4 | status));
+    tandem(0, 0, (uint8_t)(bei << 4 | status));
+    return step_levels(flags, 0, 0, (const uint8_t[OTN_LEVELS]){0});
+}
+
+/* a second whose frames are all clear but for some, and then the same five in each of the records from `first` on, before `end` */
+static void frames_of(uint32_t expected[WORDS], uint32_t frames, uint32_t other, unsigned head) {
+    memset(expected, 0, 4 * WORDS);
+    expected[OTN_SECOND] = 1;
+    expected[OTN_FRAMES] = frames;
+    expected[OTN_UNDER] = frames - other;
+    expected[OTN_UNDER + head] += other;
+}
+static void each(uint32_t expected[WORDS], int first, int end, uint32_t far, uint32_t near_ds, uint32_t far_ds, uint32_t sum) {
+    for (int i = first; i < end; i++) memcpy(expected + COUNTS + FIVE * i, (const uint32_t[FIVE]){0, far, near_ds, far_ds, sum}, 4 * FIVE);
+}
+
+static void sums(void) {
+    uint32_t expected[WORDS];
+    memset(overhead, 0, sizeof overhead);
+
+    /* numbers, 9, the mark of BIAE alone, 0 and 15 */
+    static const uint8_t seven[7] = {8, 1, 2, 9, 11, 0, 15};
+    for (int given_too = 0; given_too < 2; given_too++) {
+        check(start(given_too) == 0, "fresh");
+        mfas = 0;
+        for (int i = 0; i < 7; i++) check(otn_refusal(send_bei(0, seven[i], 1)) == 0, "seven BEI");
+        memcpy(expected, (const uint32_t[WORDS]){1, 7, 7, [12] = 0, 3, 0, 0, 11, 0, 3, 0, 0, 11}, sizeof expected);
+        if (given_too) each(expected, 2, WATCHED, 3, 0, 0, 11);
+        closes(expected, "seven BEI");
+    }
+
+    /* under TSF-P nothing is counted or added */
+    check(all_given(1) == 0, "fresh, all levels");
+    mfas = 0;
+    for (int i = 0; i < 5; i++) send_bei(i >= 3, 8, 1);
+    frames_of(expected, 5, 2, OTN_HEAD_TSF_P);
+    each(expected, 0, WATCHED, 3, 1, 0, 24);
+    closes(expected, "a sum under TSF-P");
+
+    /* three marks of BIAE after a number: none of section and levels is left, and in the path they are none */
+    check(all_given(1) == 0, "fresh, all levels");
+    mfas = 0;
+    for (int i = 0; i < 4; i++) send_bei(0, i ? 11 : 5, 1);
+    for (int i = 0; i < WATCHED; i++) check(word_at(record_at(i) + FAR) == 1 && word_at(record_at(i) + FAR_SUM) == 5, "dBIAE, before the discard");
+    closes((const uint32_t[WORDS]){1, 4, 4, [OTN_PATH_FAR] = 1, [OTN_PATH_FAR_SUM] = 5}, "a sum and dBIAE");
+
+    /* BEI 9 alone; then each code in each record by itself */
+    check(all_given(1) == 0, "fresh, all levels");
+    mfas = 0;
+    for (int i = 0; i < 20; i++) send_bei(0, 9, 1);
+    closes((const uint32_t[WORDS]){1, 20, 20}, "BEI 9");
+    for (int i = 0; i < WATCHED; i++)
+        for (uint8_t bei = 0; bei < 16; bei++) {
+            const uint32_t number = bei < 9 ? bei : 0;
+            check(all_given(2) == 0, "fresh, all levels");
+            mfas = 0;
+            for (int frame = 0; frame < 2; frame++) {
+                send(0, 0, 1);
+                tandem(0, 0, 1);
+                overhead[field[i] + 2] |= (uint8_t)(bei << 4);
+                step(0, 0, 0);
+            }
+            frames_of(expected, 2, 0, OTN_HEAD_CLEAR);
+            each(expected, i, i + 1, number ? 2 : 0, 0, 0, 2 * number);
+            closes(expected, "each code of BEI");
+        }
+
+    /* STAT, from the third frame on: dAIS, dOCI and dLCK stop path and levels, dLTC levels; a level's dIAE voids; BDI counts from its fifth frame, but in dAIS */
+    for (uint8_t stat = 0; stat < 8; stat++) {
+        const int stops = stat >= 5;
+        const unsigned head = stat == 7 ? OTN_HEAD_AIS : stat == 6 ? OTN_HEAD_OCI : OTN_HEAD_LCK;
+        check(all_given(3) == 0, "fresh, all levels");
+        mfas = 0;
+        for (int i = 0; i < 6; i++) send_bei(0, 7, stat | 8);
+        frames_of(expected, 6, stops ? 4 : 0, head);
+        each(expected, 0, 1, 6, 0, 1, 42);
+        each(expected, 1, 2, stops ? 2 : 6, stops, stat != 7, stops ? 14 : 42);
+        if (stat != 2) each(expected, 2, WATCHED, stops || stat == 0 ? 2 : 6, stops || stat == 0, stat != 7, stops || stat == 0 ? 14 : 42);
+        closes(expected, "a sum and STAT");
+    }
+
+    /* dTIM at frame 194 stops no sum of its own layer; where the section's acts it is SSF of path and levels */
+    for (int who = 0; who < WATCHED; who++)
+        for (uint8_t dis = 0; dis < 2; dis++) {
+            const uint8_t off = OTN_MODE_OFF, on = OTN_MODE_SAPI;
+            const int ssf = who == 0 && dis == 0;
+            memset(names, 1, sizeof names);
+            check(fresh(ALL, 1, 1, 2, 1, 2, who == 0 ? on : off, who == 1 ? on : off, dis, dis, 32, 32) == 0, "fresh, names");
+            for (uint8_t n = 1; n <= OTN_LEVELS; n++) check(level(n, 1, 2, who == n + 1 ? on : off, dis, 32) == 0, "level, names");
+            memset(names, 0, sizeof names);
+            mfas = 254;
+            for (int i = 0; i < 194; i++) send_bei(0, 6, 1);
+            frames_of(expected, 194, ssf || (who == 1 && dis == 0), ssf ? OTN_HEAD_SECTION_TIM : OTN_HEAD_PATH_TIM);
+            each(expected, 0, WATCHED, 194, 0, 0, 6 * 194);
+            if (ssf) each(expected, 1, WATCHED, 193, 1, 0, 6 * 193);
+            each(expected, who, who + 1, 194, 1, 0, 6 * 194);
+            closes(expected, "a sum and dTIM");
+        }
+
+    /* a sum is of its own second, and nothing is left of it in the next one */
+    check(all_given(1) == 0, "fresh, all levels");
+    mfas = 0;
+    for (uint8_t n = 1; n <= 8; n++) {
+        for (int i = 0; i < 10; i++) send_bei(0, n, 1);
+        frames_of(expected, 10, 0, OTN_HEAD_CLEAR);
+        expected[OTN_SECOND] = n;
+        each(expected, 0, WATCHED, 10, 0, 0, 10 * n);
+        closes(expected, "sums, second by second");
+    }
+    closes((const uint32_t[WORDS]){9}, "sums, an empty second");
+    memset(overhead, 0, sizeof overhead);
+}
+
+/* A second as full as it gets, 400,000 frames with BEI 8 in section, path and levels. So many of them are not taken, but put there as they would leave it. */
+static void full_second(uint32_t there) {
+    uint8_t record[OTN_RECORD_BYTES], summary[OTN_SUMMARY_BYTES];
+    uint32_t expected[WORDS] = {1, FULL, FULL};
+    int good = all_given(1) == 0;
+    put(SECOND, 4, there);
+    put(SECOND + 4, 4, there);
+    for (int i = 0; i < WATCHED; i++) {
+        put(record_at(i) + FAR, 4, there);
+        put(record_at(i) + FAR_SUM, 4, 8 * there);
+    }
+    memset(overhead, 0, sizeof overhead);
+    mfas = 0;
+    for (uint32_t n = there; n < FULL; n++) {
+        send(0, 0x80, 0x81);
+        tandem(0, 0, 0x81);
+        good &= otn_refusal(otn_step(sup, ALL, overhead, OTN_OVERHEAD_BYTES, 0, 0, 0)) == 0;
+    }
+    check(good, "a full second");
+    REFUSES(step(0, 0, 0), 4, "a full second, and a frame more");
+    each(expected, 0, WATCHED, FULL, 0, 0, MOST);
+    check(closed(record), "a full second, its mark");
+    for (unsigned i = 0; i < WORDS; i++) check(otn_figure(record, i) == expected[i], "a full second, its figures");
+    check(otn_summary(record, sizeof record, summary, sizeof summary) == 0, "a full second, its summary");
+    for (unsigned i = 1; i <= OTN_PATH_FAR_SUM; i++) check(otn_summary_figure(summary, i + 1) == expected[i], "a full second, its summary's figures");
+    static const unsigned sum[] = {OTN_SECTION_FAR_SUM, OTN_PATH_FAR_SUM};
+    for (int i = 0; i < 2; i++) {
+        record[4 * sum[i]]++; /* 3,200,001 */
+        check(otn_figure(record, sum[i]) == MOST + 1 && otn_summary(record, sizeof record, summary, sizeof summary) == 26, "a sum above that of a full second");
+        record[4 * sum[i]]--;
+    }
+    memset(overhead, 0, sizeof overhead);
+}
+
+/* Summaries, as their 23 numbers. The two calls are made on lent bytes with a guard around each buffer: nothing is written but the output, of that
    no more than a summary has and there is room for, and nothing at all where the call is refused. */
-enum { SUMS = OTN_SUMMARY_BYTES / 8, LENGTH = OTN_SUMMARY_LENGTH, FRAMES = OTN_SUMMARY_FRAMES, QUARTER = 900, DAY = 86400, FULL = 400000, FIGURES = 20, ROOM = 200 };
+enum { SUMS = OTN_SUMMARY_BYTES / 8, LENGTH = OTN_SUMMARY_LENGTH, FRAMES = OTN_SUMMARY_FRAMES, QUARTER = 900, DAY = 86400, FIGURES = 22, ROOM = 240 };
 enum { EARLIER, LATER, OUT, LENT };
 #define SUM(...) ((const uint64_t[SUMS]){__VA_ARGS__})
 static const uint8_t nothing[OTN_SUMMARY_BYTES];
@@ -1114,8 +1362,10 @@ static void invalid(const uint64_t *a, const char *what) {
     }
 }
 
-/* whether a number is of seconds with DS: the third and fourth of a layer's four */
-static int of_ds(unsigned i) { return i >= OTN_SUMMARY_SECTION_NEAR && (i - OTN_SUMMARY_SECTION_NEAR) % FOUR >= 2; }
+/* Of a layer's five the third and fourth are of seconds with DS, and the fifth is a sum of violations. The most that a number is in one second. */
+static unsigned of_five(unsigned i) { return i < OTN_SUMMARY_SECTION_NEAR ? 0 : (i - OTN_SUMMARY_SECTION_NEAR) % FIVE; }
+static int of_ds(unsigned i) { return of_five(i) == OTN_LEVEL_NEAR_DS || of_five(i) == OTN_LEVEL_FAR_DS; }
+static uint64_t most_of(unsigned i) { return of_ds(i) ? 1 : of_five(i) == OTN_LEVEL_FAR_SUM ? MOST : FULL; }
 
 static void joining(void) {
     joins(SUM(0), SUM(0), 0, SUM(0), "two empty ones");
@@ -1128,9 +1378,9 @@ static void joining(void) {
     joins(SUM(1, 10), SUM(10, 11), 21, NULL, "an overlap");
     joins(SUM(11, 10), SUM(1, 10), 21, NULL, "the later one first");
     joins(SUM(7, 3), SUM(7, 3), 21, NULL, "the same again");
-    joins(SUM(1, 10, 1, 2, 3, 4, 5, 6, 7, 8, 9, 10, 11, 12, 13, 1, 2, 14, 15, 3, 4),
-          SUM(11, 10, 100, 200, 300, 400, 500, 600, 700, 800, 900, 1000, 1100, 1200, 1300, 5, 6, 1400, 1500, 7, 8), 0,
-          SUM(1, 20, 101, 202, 303, 404, 505, 606, 707, 808, 909, 1010, 1111, 1212, 1313, 6, 8, 1414, 1515, 10, 12), "following on, and each number by itself");
+    joins(SUM(1, 10, 1, 2, 3, 4, 5, 6, 7, 8, 9, 10, 11, 12, 13, 1, 2, 16, 14, 15, 3, 4, 17),
+          SUM(11, 10, 100, 200, 300, 400, 500, 600, 700, 800, 900, 1000, 1100, 1200, 1300, 5, 6, 1600, 1400, 1500, 7, 8, 1700), 0,
+          SUM(1, 20, 101, 202, 303, 404, 505, 606, 707, 808, 909, 1010, 1111, 1212, 1313, 6, 8, 1616, 1414, 1515, 10, 12, 1717), "following on, and each number by itself");
     joins(SUM(1, DAY), SUM(5, 2), 20, NULL, "too long and not following on");
     joins(SUM(1, DAY), SUM(90000, 1), 20, NULL, "too long and a gap");
     joins(SUM(1, DAY + 1), SUM(0), 26, NULL, "one that is too long by itself");
@@ -1163,7 +1413,7 @@ static void joining(void) {
         const uint64_t length = lengths[l];
         uint64_t all[SUMS] = {length > 0, length}, one[SUMS];
         for (unsigned i = FRAMES; i < SUMS; i++) {
-            const uint64_t bound = of_ds(i) ? length : FULL * length;
+            const uint64_t bound = most_of(i) * length;
             memcpy(one, SUM(length > 0, length), sizeof one);
             all[i] = one[i] = bound;
             valid(one, "a number at its bound");
@@ -1181,10 +1431,10 @@ static void joining(void) {
     /* sums above 32 bits, up to the greatest there are */
     uint64_t half[SUMS] = {1, DAY / 2}, rest[SUMS] = {DAY / 2 + 1, DAY / 2}, whole[SUMS] = {1, DAY};
     for (unsigned i = FRAMES; i < SUMS; i++) {
-        half[i] = rest[i] = (of_ds(i) ? 1 : FULL) * (uint64_t)DAY / 2;
+        half[i] = rest[i] = most_of(i) * DAY / 2;
         whole[i] = 2 * half[i];
     }
-    check(whole[FRAMES] == 34560000000, "400,000 times 86,400");
+    check(whole[FRAMES] == 34560000000 && whole[OTN_SUMMARY_PATH_FAR_SUM] == 276480000000, "400,000 and 3,200,000 times 86,400");
     joins(half, rest, 0, whole, "the greatest sums");
 
     /* bytes of any length on either side, and an output of any length */
@@ -1215,7 +1465,7 @@ static void figure(unsigned i, uint32_t x) {
     for (unsigned j = 0; j < 4; j++) lent[EARLIER][GUARD + 4 * i + j] = (uint8_t)(x >> 8 * j);
 }
 
-/* a record of zeros but for its number, and behind its twenty figures any bytes */
+/* a record of zeros but for its number, and behind its 22 figures any bytes */
 static void record_of(uint32_t second) {
     memset(lent, 0xc3, sizeof lent);
     memset(lent[EARLIER] + GUARD, 0, 4 * FIGURES);
@@ -1229,14 +1479,16 @@ static const uint8_t named[][2] = {
     {OTN_SECOND, OTN_SUMMARY_LENGTH}, {OTN_FRAMES, OTN_SUMMARY_FRAMES}, {OTN_UNDER, OTN_SUMMARY_UNDER},
     {OTN_SECTION_NEAR, OTN_SUMMARY_SECTION_NEAR}, {OTN_SECTION_FAR, OTN_SUMMARY_SECTION_FAR},
     {OTN_SECTION_NEAR_DS, OTN_SUMMARY_SECTION_NEAR_DS}, {OTN_SECTION_FAR_DS, OTN_SUMMARY_SECTION_FAR_DS},
+    {OTN_SECTION_FAR_SUM, OTN_SUMMARY_SECTION_FAR_SUM},
     {OTN_PATH_NEAR, OTN_SUMMARY_PATH_NEAR}, {OTN_PATH_FAR, OTN_SUMMARY_PATH_FAR},
     {OTN_PATH_NEAR_DS, OTN_SUMMARY_PATH_NEAR_DS}, {OTN_PATH_FAR_DS, OTN_SUMMARY_PATH_FAR_DS},
+    {OTN_PATH_FAR_SUM, OTN_SUMMARY_PATH_FAR_SUM},
 };
 
 static void one_second(void) {
-    static const uint64_t worked[SUMS] = {1, 1, 2, 0, 2, [15] = 1, [19] = 1};
+    static const uint64_t worked[SUMS] = {1, 1, 2, 0, 2, [15] = 1, [20] = 1};
     for (size_t i = 0; i < sizeof named / sizeof *named; i++) check(named[i][1] == named[i][0] + 1, "summary, the names of its figures");
-    check(OTN_SUMMARY_FIRST == 0 && OTN_SUMMARY_PATH_FAR_DS == SUMS - 1, "summary, its first and last figure");
+    check(OTN_SUMMARY_FIRST == 0 && OTN_SUMMARY_PATH_FAR_SUM == SUMS - 1, "summary, its first and last figure");
     uint8_t record[OTN_RECORD_BYTES];
     memset(overhead, 0, sizeof overhead);
     check(all_given(1) == 0 && otn_refusal(step(1, 0, 0)) == 0 && otn_refusal(step(1, 0, 0)) == 0 && closed(record), "the worked example, with levels");
@@ -1244,26 +1496,26 @@ static void one_second(void) {
     for (size_t n = 0; n <= ROOM; n++) {
         record_of(0);
         memcpy(lent[EARLIER] + GUARD, record, sizeof record);
-        check(summing(0, n, 0, OTN_SUMMARY_BYTES) == (n < 80 ? 26 : 0) && (n < 80 || are(worked)), "summary, a record of any length");
+        check(summing(0, n, 0, OTN_SUMMARY_BYTES) == (n < 88 ? 26 : 0) && (n < 88 || are(worked)), "summary, a record of any length");
         check(summed() == 0 && are(worked), "summary, the worked example");
         uint8_t full[OTN_SUMMARY_BYTES];
         memcpy(full, lent[OUT] + GUARD, sizeof full);
         lend(OUT, NULL);
         check(summing(0, OTN_RECORD_BYTES, 0, n) == 0, "summary, an output of any length");
         check(memcmp(lent[OUT] + GUARD, full, n < sizeof full ? n : sizeof full) == 0, "summary, what there is room for");
-        check(summing(0, n < 80 ? n : 79, 0, n) == 26, "summary, a short record and an output of any length");
+        check(summing(0, n < 88 ? n : 87, 0, n) == 26, "summary, a short record and an output of any length");
     }
-    check(otn_summary(NULL, 0, NULL, 0) == 26 && otn_summary(record, 79, NULL, 0) == 26 && otn_summary(record, 80, NULL, 0) == 0, "summary, NULL");
+    check(otn_summary(NULL, 0, NULL, 0) == 26 && otn_summary(record, 87, NULL, 0) == 26 && otn_summary(record, 88, NULL, 0) == 0, "summary, NULL");
     /* the figures one by one: where each goes, its bound, and above it */
     for (unsigned i = 1; i < FIGURES; i++) {
-        const uint32_t bound = of_ds(i + 1) ? 1 : FULL;
+        const uint32_t bound = (uint32_t)most_of(i + 1);
         uint64_t one[SUMS] = {5, 1};
-        static const uint32_t above[] = {2, 3, 256, FULL + 1, 0x10000, 0x1000000, 0x80000000, 0xffffffff};
+        static const uint32_t above[] = {2, 3, 256, FULL + 1, MOST + 1, 0x10000, 0x1000000, 0x80000000, 0xffffffff};
         record_of(5);
         figure(i, bound);
         one[i + 1] = bound;
         check(summed() == 0 && are(one), "summary, a figure at its bound");
-        for (int j = 0; j < 8; j++) {
+        for (int j = 0; j < 9; j++) {
             figure(i, above[j]);
             one[i + 1] = above[j];
             check(above[j] > bound ? summed() == 26 : summed() == 0 && are(one), "summary, a figure above its bound");
@@ -1276,11 +1528,12 @@ static void one_second(void) {
     check(summed() == 26, "summary, number 0");
     record_of(0xffffffff);
     check(summed() == 0 && are(SUM(0xffffffff, 1)), "summary, the last second");
-    /* heads that do not add up, and more blocks than frames, are not asked for */
+    /* heads that do not add up, more blocks than frames, and sums below the far blocks or above eight times them, are not asked for */
     record_of(9);
     figure(OTN_UNDER + 3, 7);
+    figure(OTN_SECTION_FAR_SUM, 5);
     figure(OTN_PATH_FAR, 8);
-    check(summed() == 0 && are(SUM(9, 1, [OTN_SUMMARY_UNDER + 3] = 7, [OTN_SUMMARY_PATH_FAR] = 8)), "summary, figures that do not fit one another");
+    check(summed() == 0 && are(SUM(9, 1, [OTN_SUMMARY_UNDER + 3] = 7, [OTN_SUMMARY_SECTION_FAR_SUM] = 5, [OTN_SUMMARY_PATH_FAR] = 8)), "summary, figures that do not fit one another");
 }
 
 /* a summary joined to another in its place, as a caller keeps it: by a buffer between */
@@ -1298,9 +1551,10 @@ static void add(uint64_t sums[SUMS], const uint8_t *record) {
     for (unsigned i = FRAMES; i < SUMS; i++) sums[i] += of_ds(i) ? otn_figure(record, i - 1) != 0 : otn_figure(record, i - 1);
 }
 
-/* a summary has these numbers, and its heads add up to its frames */
+/* a summary has these numbers, its heads add up to its frames, and far blocks <= sum <= 8 times far blocks */
 static int whole_sums(const uint8_t *summary, const uint64_t sums[SUMS]) {
     int good = 1;
+    for (unsigned i = OTN_SUMMARY_SECTION_NEAR; i < SUMS; i += FIVE) good &= sums[i + 1] <= sums[i + 4] && sums[i + 4] <= 8 * sums[i + 1];
     uint64_t under = 0;
     for (unsigned i = 0; i < SUMS; i++) good &= otn_summary_figure(summary, i) == sums[i];
     for (unsigned head = 0; head < 10; head++) under += otn_summary_figure(summary, OTN_SUMMARY_UNDER + head);
@@ -1324,8 +1578,8 @@ static void a_day(void) {
         /* second n, and the report of the one before it */
         for (uint32_t i = 0; n <= DAY + 1 && i < (n <= QUARTER ? n % 10 : n % 16 == 0); i++) {
             seed = seed * 1664525 + 1013904223;
-            const uint8_t bdi = n % 100 < 20 ? 8 : 0, iae = n % 50 == 7 ? 4 : 0;
-            send(0, (uint8_t)(0x10 | bdi | iae), (uint8_t)(0x10 | bdi | (n % 60 < 5 ? 7 : n % 60 < 9 ? 6 : n % 60 < 14 ? 5 : 1)));
+            const uint8_t bdi = n % 100 < 20 ? 8 : 0, iae = n % 50 == 7 ? 4 : 0, bei = (uint8_t)(n % 11 << 4), other = (uint8_t)(n % 13 << 4);
+            send(0, (uint8_t)(bei | bdi | iae), (uint8_t)(other | bdi | (n % 60 < 5 ? 7 : n % 60 < 9 ? 6 : n % 60 < 14 ? 5 : 1)));
             if (n % 900 > 500 && n % 900 < 540) memset(overhead, 0, 6);
             if (n > 600 && n < 640) overhead[6] = 0;
             const uint8_t flagged = (uint8_t)(n % 30 == 0 ? 1 + (seed >> 16) % 3 : 0), sm = (uint8_t)(seed >> 30), pm = (uint8_t)(seed >> 28 & 3);
@@ -1337,7 +1591,7 @@ static void a_day(void) {
             continue;
         }
         const uint32_t number = n - 1;
-        check(answer == TOLD && otn_summary(record, sizeof record, second, sizeof second) == 0, "a day, a reported second");
+        check(answer == TOLD && bounded(record) && otn_summary(record, sizeof record, second, sizeof second) == 0, "a day, a reported second");
         if (number > DAY) {
             check(otn_join(day, sizeof day, second, sizeof second, record, sizeof record) == 20, "a day is full");
             continue;
@@ -1427,7 +1681,7 @@ static void fences(void) {
     /* the pending second, in a record that ends at its last figure or before it, and summaries */
     for (size_t m = 0; m <= OTN_RECORD_BYTES; m++) {
         uint8_t *end = r + OTN_RECORD_BYTES - m;
-        check(otn_pending(s, ALL, end, m) == TOLD && otn_summary(end, m, a, OTN_SUMMARY_BYTES) == (m < 80 ? 26 : 0), "fenced, summary");
+        check(otn_pending(s, ALL, end, m) == TOLD && otn_summary(end, m, a, OTN_SUMMARY_BYTES) == (m < 88 ? 26 : 0), "fenced, summary");
     }
     for (size_t m = 0; m <= OTN_SUMMARY_BYTES; m++) {
         const size_t all = OTN_SUMMARY_BYTES;
@@ -1444,9 +1698,9 @@ enum { FRESH, LEVEL, STEP, STEP_LEVELS, MARK, PENDING, TRACE, LEVEL_REPORT, LEVE
 static struct {
     const char *name;
     long bound, deepest;
-} of_call[CALLS] = {{"otn_fresh", 256, 0}, {"otn_level", 512, 0}, {"otn_step", 960, 0}, {"otn_step_levels", 1024, 0},
-                    {"otn_mark", 960, 0}, {"otn_pending", 768, 0}, {"otn_trace", 448, 0}, {"otn_level_report", 384, 0},
-                    {"otn_level_trace", 512, 0}, {"otn_summary", 320, 0}, {"otn_join", 576, 0}};
+} of_call[CALLS] = {{"otn_fresh", 256, 0}, {"otn_level", 512, 0}, {"otn_step", 1024, 0}, {"otn_step_levels", 1088, 0},
+                    {"otn_mark", 1056, 0}, {"otn_pending", 832, 0}, {"otn_trace", 448, 0}, {"otn_level_report", 448, 0},
+                    {"otn_level_trace", 512, 0}, {"otn_summary", 320, 0}, {"otn_join", 640, 0}};
 
 static uint8_t stack[1 << 16] __attribute__((aligned(16)));
 static int which;
@@ -1552,10 +1806,14 @@ int main(int words, char **word) {
     refusals_of_readings();
     rows();
     ranges();
+    ranges_of_sums();
     frames();
     compared();
     levels();
-    neighbours();
+    neighbours(1);
+    neighbours(8);
+    sums();
+    full_second(words == 1 ? 0 : FULL - 100);
     joining();
     one_second();
     a_day();

@@ -14,19 +14,19 @@ gives 'E 0 0' P
 gives 'E 0 3' P 'Z*3'
 # the worked example
 failing='+SM.SSF +PM.SSF +SM.aTSF +SM.aBDI +PM.aTSF +PM.aBDI'
-gives "$(line "F 1 1 1 +TSF-P $failing +SM.cSSF +PM.cSSF head=1" 'S 1 2 0 2 0 0 0 0 0 0 0 0 0 0 1 0 0 0 1 0' 'E 1 2')" P 'Z:flags=1*2' M
+gives "$(line "F 1 1 1 +TSF-P $failing +SM.cSSF +PM.cSSF head=1" 'S 1 2 0 2 0 0 0 0 0 0 0 0 0 0 1 0 0 0 0 1 0 0' 'E 1 2')" P 'Z:flags=1*2' M
 # both flags, and one of them less
 gives "$(line "F 1 1 1 +TSF-P +OTUk-AIS $failing +SM.cSSF +PM.cSSF head=1" 'F 1 2 2 -TSF-P head=2' 'E 0 2')" P Z:flags=3 Z:flags=2
 # the number of the second, of the frame in it, and of the frame in the trace
-empty='0 0 0 0 0 0 0 0 0 0 0 0 0 0 0 0 0 0 0'
-gives "$(line "S 1 $empty" 'F 3 2 2 +IF' "S 2 $empty" 'F 4 1 3 +IM' 'S 3 2 2 0 0 0 0 0 0 0 0 0 0 0 0 0 0 0 0 0' 'E 3 3')" P M M 'G*2' M G
+empty='0 0 0 0 0 0 0 0 0 0 0 0 0 0 0 0 0 0 0 0 0'
+gives "$(line "S 1 $empty" 'F 3 2 2 +IF' "S 2 $empty" 'F 4 1 3 +IM' 'S 3 2 2 0 0 0 0 0 0 0 0 0 0 0 0 0 0 0 0 0 0 0' 'E 3 3')" P M M 'G*2' M G
 
 # a refusal: the frame refused has no line
 gives "$(line 'R 16 0' 'E 0 0')" Z:flags=1
 gives "$(line 'F 1 2 2 +IF' 'R 2 225' 'E 0 2')" P 'G*2' G:flags=4 'G*9'
 gives "$(line 'F 1 2 2 +IF' 'R 14 225' 'E 0 2')" P 'G*2' G:flags=1 -1
 # the pending second comes after the lines of the open one, and before the refusal
-two='S 1 2 2 0 0 0 0 0 0 0 0 0 0 0 0 0 0 0 0 0'
+two='S 1 2 2 0 0 0 0 0 0 0 0 0 0 0 0 0 0 0 0 0 0 0'
 gives "$(line 'F 1 2 2 +IF' "$two" 'R 2 229' 'E 1 2')" P 'G*2' M G:flags=4
 gives "$(line 'F 1 2 2 +IF' 'F 2 1 3 +IM' "$two" 'R 14 300' 'E 1 3')" P 'G*2' M G G -1
 gives "$(line "F 1 62 62 +dLOF +dLOM $failing +cLOF +SM.cSSF +PM.cSSF head=3" 'R 4 28400083' 'E 0 400000')" P 'Z*400000' Z:flags=1
@@ -60,8 +60,8 @@ gives "$(line "$aligned" "$accepted" 'F 1 259 259 +PM.dAIS +PM.aTSF +PM.aBDI +PM
     'F 1 268 268 -PM.dLCK -PM.aTSF -PM.aBDI -PM.cLCK head=0' 'E 0 268')" P 'G:stti=65,ptti=80*256' 'G:pst=7*3' 'G:pst=6*3' 'G:pst=5*3' 'G:pst=1*3'
 
 # dDEG is told with the frame after the mark, here in each layer after seconds of its own
-bad='3 3 0 0 0 0 0 0 0 0 0 3 0 0 0 3 0 0 0'
-clear='1 1 0 0 0 0 0 0 0 0 0 0 0 0 0 0 0 0 0'
+bad='3 3 0 0 0 0 0 0 0 0 0 3 0 0 0 0 3 0 0 0 0'
+clear='1 1 0 0 0 0 0 0 0 0 0 0 0 0 0 0 0 0 0 0 0'
 gives "$(line "$aligned" "S 1 $bad" 'F 3 1 7 +PM.dDEG +PM.aTSD +PM.cDEG' "S 2 $bad" 'F 4 1 10 +SM.dDEG +SM.aTSD +SM.cDEG' "S 3 $bad" "S 4 $clear" \
     'F 6 1 11 -PM.dDEG -PM.aTSD -PM.cDEG' "S 5 $empty" 'F 7 1 12 -SM.dDEG -SM.aTSD -SM.cDEG' "S 6 $clear" 'E 6 12')" \
     P:sdegm=3 'G:sm=1,pm=8*3' M 'G:sm=8,pm=1*3' M 'G:sm=1,pm=1*3' M G M M G M G
@@ -73,11 +73,17 @@ gives "$(line "$aligned" "S 1 $bad" \
 gives "$(line "$aligned" "S 1 $bad" "S 2 $bad" "S 3 $empty" "S 4 $empty" 'E 4 7')" P 'G:sm=1,pm=1*3' M 'G:sm=1,pm=1*3' M M M G
 
 # an alignment error voids the second before, whose line stands behind it; dDEG, raised by that second, stays
-near() { line "S $1 10 10 0 0 0 0 0 0 0 0 0 $2 0 0 0 0 0 0 0"; }
+near() { line "S $1 10 10 0 0 0 0 0 0 0 0 0 $2 0 0 0 0 0 0 0 0 0"; }
 gives "$(line "$aligned" 'F 2 5 15 +SM.dIAE +SM.aBIAE' 'F 2 10 20 -SM.dIAE -SM.aBIAE' && near 1 0 && near 2 0 && near 3 10 && line 'E 3 30')" \
     P 'G:sm=1*10' M 'G:sm=1,sst=4*5' 'G:sm=1*5' M 'G:sm=1*10' M
 gives "$(line "$aligned" && near 1 10 && line 'F 3 1 21 +SM.dDEG +SM.aTSD +SM.cDEG' 'F 3 5 25 +SM.dIAE +SM.aBIAE' && near 2 0 &&
     line 'F 4 5 35 -SM.dIAE -SM.aBIAE' && near 3 0 && line 'E 3 35')" P 'G:sm=1*10' M 'G:sm=1*10' M 'G:sm=1,sst=4*10' M 'G*5'
+
+# the sum of the far end's violations is in S, and BEI changes nothing that F tells but by dBIAE
+gives "$(line "$aligned" 'S 1 6 6 0 0 0 0 0 0 0 0 0 0 3 0 0 11 0 3 0 0 11' 'E 1 6')" \
+    P G:sst=0x80,pst=0x81 G:sst=0x10,pst=0x11 G:sst=0x20,pst=0x21 G:sst=0x90,pst=0x91 G:sst=0xb0,pst=0xb1 G:sst=0xf0,pst=0xf1 M
+gives "$(line "$aligned" 'F 1 4 4 +SM.dBIAE +TCM2.dBIAE' 'S 1 4 4 0 0 0 0 0 0 0 0 0 0 0 0 0 0 0 1 0 0 5 0 0 0 0 0' 'E 1 4')" \
+    P L:level=2 G:sst=0x50,pst=0x51,st2=0x51 'G:sst=0xb0,pst=0xb1,st2=0xb1*3' M
 
 # BDI in both layers; IAE and BIAE
 gives "$(line "$aligned" 'F 1 5 5 +SM.dBDI +PM.dBDI +SM.cBDI +PM.cBDI' 'F 1 10 10 -SM.dBDI -PM.dBDI -SM.cBDI -PM.cBDI' 'E 0 10')" \
@@ -95,7 +101,7 @@ gives "$(line "$aligned" 'R 19 384' 'E 0 3')" P L:level=2 L:level=3 'G:st2=1,st3
 told="F 1 3 3 +IM +TCM1.dLTC +TCM1.aTSF +TCM1.cLTC"
 gives "$(line 'F 1 2 2 +IF' "$told" "F 1 6 6 +TSF-P $failing +SM.cSSF +PM.cSSF +TCM1.SSF -TCM1.dLTC +TCM1.cSSF -TCM1.cLTC head=1" \
     "F 1 8 8 -TSF-P $clearing -SM.cSSF -PM.cSSF -TCM1.SSF -TCM1.aTSF -TCM1.cSSF head=0" \
-    'F 1 10 10 +TCM1.dLTC +TCM1.aTSF +TCM1.cLTC' 'S 1 12 10 2 0 0 0 0 0 0 0 0 0 0 1 0 0 0 1 0 4 0 1 0' 'E 1 12')" \
+    'F 1 10 10 +TCM1.dLTC +TCM1.aTSF +TCM1.cLTC' 'S 1 12 10 2 0 0 0 0 0 0 0 0 0 0 1 0 0 0 0 1 0 0 4 0 1 0 0' 'E 1 12')" \
     P L 'G5:t1=1*5' 'G5:flags=1,t1=1*2' 'G5:t1=1*5' M
 # levels after the path, the lowest first, each in the order of otn_level_report's bits
 gives "$(line 'F 1 2 2 +IF' 'F 1 3 3 +IM +PM.dLCK +PM.aTSF +PM.aBDI +PM.cLCK +TCM2.dAIS +TCM2.aTSF +TCM2.cSSF +TCM5.dOCI +TCM5.aTSF +TCM5.cOCI head=8' \
@@ -113,14 +119,14 @@ for dis in 0 1; do
         P L:level=3,mode=1,name=1,dis=$dis 'G:stti=65,ptti=80,tti3=88,st3=2*256' 'G:stti=65,ptti=80,tti3=88,st3=7*3'
 done
 # a level's dDEG is told with the frame after the mark
-gives "$(line "$aligned" "S 1 ${clear//1 1/3 3} 3 0 0 0" 'F 3 1 7 +TCM6.dDEG +TCM6.aTSD +TCM6.cDEG' "S 2 ${clear//1 1/3 3} 3 0 0 0" 'E 2 7')" \
+gives "$(line "$aligned" "S 1 ${clear//1 1/3 3} 3 0 0 0 0" 'F 3 1 7 +TCM6.dDEG +TCM6.aTSD +TCM6.cDEG' "S 2 ${clear//1 1/3 3} 3 0 0 0 0" 'E 2 7')" \
     P L:level=6 'G5:t6=1,st6=1*3' M 'G5:t6=2,st6=1*3' M G5:st6=1
 
 # the same from a pipe, in pieces of 7 bytes, and an input without end
 "$work/trace" P 'G:stti=65,ptti=80*300' M 'G:flags=2*3' > "$work/in"
 name='pieces of 7 bytes'
 text=$(line "$aligned" "$accepted" "F 2 1 301 +OTUk-AIS $failing +SM.cSSF +PM.cSSF head=2 -SM.trace -PM.trace" \
-    'S 1 300 300 0 0 0 0 0 0 0 0 0 0 0 0 0 0 0 0 0' 'E 1 303')
+    'S 1 300 300 0 0 0 0 0 0 0 0 0 0 0 0 0 0 0 0 0 0 0' 'E 1 303')
 said "$text" "$(dd bs=7 if="$work/in" 2> /dev/null | timeout 120 bin/explain)"
 name='zeros without end'
 said "$(line 'R 15 0' 'E 0 0')" "$(timeout 60 bin/explain < /dev/zero)"

@@ -41,9 +41,9 @@ for folder in second tools speed; do
 done
 
 for command in ledger explain quarters; do
-    only='^[SRE] ' worked=$(cat examples/worked.listing) damaged=$(cat examples/damaged.listing) first='S 1 0 0 0 0 0 0 0 0 0 0 0 0 0 0 0 0 0 0 0'
+    only='^[SRE] ' worked=$(cat examples/worked.listing) damaged=$(cat examples/damaged.listing) first='S 1 0 0 0 0 0 0 0 0 0 0 0 0 0 0 0 0 0 0 0 0 0'
     if [ "$command" = quarters ]; then # both have one second: the sums are its figures
-        only='^[QDRE] ' first='Q 0 1 900 0 0 0 0 0 0 0 0 0 0 0 0 0 0 0 0 0 0 0'
+        only='^[QDRE] ' first='Q 0 1 900 0 0 0 0 0 0 0 0 0 0 0 0 0 0 0 0 0 0 0 0 0'
         worked=$(sed -E 's/^S 1 (.*)/Q 0 1 1 \1\nD 0 1 1 \1/' <<< "$worked")
         damaged=$(sed -E 's/^S 1 (.*)/Q 0 1 1 \1\nD 0 1 1 \1/' <<< "$damaged")
     fi
@@ -180,7 +180,7 @@ while read -r member at; do
     *) row "$((at + 2)) \| \`$member\`" ;;
     esac
 done < <(enum otn_figure)
-while read -r member at; do row "$((at + 22)) \| \`$member\`"; done < <(enum otn_level_figure)
+while read -r member at; do row "$((at + 24)) \| \`$member\`"; done < <(enum otn_level_figure)
 while read -r member at; do
     case $member in
     OTN_SUMMARY_UNDER) row "$((at + 3)) to $((at + 12)) \| \`$member\`" ;;

@@ -11,7 +11,7 @@ pub fn word(answer: Result<u64, u8>) -> u64 {
 }
 
 /// Bytes of the record that otn_mark and otn_pending store.
-pub const RECORD: usize = 176;
+pub const RECORD: usize = 208;
 
 /// Bit 8 of what they answer: there is a second to tell, and the record is filled.
 pub const TOLD: u64 = 1 << 8;
@@ -27,7 +27,7 @@ fn told(second: Option<Second>, buffer: &mut [u8]) -> u64 {
 /// The bytes stored in a buffer, as many as it has room for; the rest keep their contents. Each level has its fixed place, and there
 /// are zeros where it is not provisioned.
 pub fn record(second: &Second, buffer: &mut [u8]) {
-    let levels = second.levels.iter().flat_map(|four| four.unwrap_or([0; 4]));
+    let levels = second.levels.iter().flat_map(|five| five.unwrap_or([0; 5]));
     let bytes = second.figures.into_iter().chain(levels).flat_map(u32::to_le_bytes);
     for (place, byte) in buffer.iter_mut().zip(bytes.take(RECORD)) {
         *place = byte;
@@ -50,9 +50,9 @@ impl Handed {
     }
 }
 
-/// otn_summary: of a record's first 20 words; fewer bytes are 26.
+/// otn_summary: of a record's first 22 words; fewer bytes are 26.
 pub fn summary(record: &[u8], out: &mut [u8]) -> u64 {
-    if record.len() < 80 {
+    if record.len() < 88 {
         return 26;
     }
     let figure = |i: usize| u32::from_le_bytes(std::array::from_fn(|at| record[4 * i + at]));

@@ -27,7 +27,7 @@
 //! begins t3.cLTC 1             from frame to frame
 //! ```
 //!
-//! With summaries (K6), by their 21 numbers or a record's 20 figures in order; those not written are 0, so that `0` is the empty summary:
+//! With summaries (K6), by their 23 numbers or a record's 22 figures in order; those not written are 0, so that `0` is the empty summary:
 //!
 //! ```text
 //! second 1 2 0 2 gives 1 1 2 0 2            otn_summary
@@ -229,7 +229,7 @@ fn handed(words: &[&str]) -> Result<(Handed, Result<Summary, u8>), String> {
     };
     let bytes = |words: &[&str]| numbers(words).map(|numbers| Summary::from(numbers).bytes().to_vec());
     let handed = match (given[0], parted(&given[1..], "with")) {
-        ("second", None) => Handed::Record(numbers::<u32, 20>(&given[1..])?.into_iter().flat_map(u32::to_le_bytes).collect()),
+        ("second", None) => Handed::Record(numbers::<u32, 22>(&given[1..])?.into_iter().flat_map(u32::to_le_bytes).collect()),
         ("join", Some((earlier, later))) => Handed::Two(bytes(earlier)?, bytes(later)?),
         _ => return Err("a second, or two to be joined".into()),
     };

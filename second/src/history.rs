@@ -1,5 +1,6 @@
 //! The record of the frames, and the two questions most rules put to it.
 
+use crate::bei::Bei;
 use std::collections::VecDeque;
 
 /// How far a look-back goes before it takes up the answer recorded there.
@@ -138,28 +139,37 @@ impl Stretch {
     }
 }
 
-/// The four figures of a section, path or level over the frames of one second.
+/// The five figures of a section, path or level over the frames of one second.
 #[derive(Clone, Copy, Debug, Default, PartialEq, Eq)]
 pub struct Figures {
     pub near: u32,
     pub far: u32,
     pub near_ds: bool,
     pub far_ds: bool,
+    /// "the sum of BEI violations beside errored blocks" (K7): eight at most for each of 400,000 frames, so that it needs no bound of its own here.
+    pub sum: u32,
 }
 
 impl Figures {
-    /// "pIAE discards near and far values .., pBIAE the far values" (K3).
+    /// A frame that is counted: its own violations, and what its BEI says of the far end.
+    pub fn count(&mut self, violations: u8, bei: Bei) {
+        self.near += u32::from(violations > 0);
+        self.far += u32::from(bei.violations().is_some());
+        self.sum += u32::from(bei.violations().unwrap_or(0));
+    }
+    /// "pIAE discards near and far values .., pBIAE the far values" (K3); the sum "is discarded .. as the far block count is" (K7).
     pub fn discarded(self, iae: bool, biae: bool) -> Figures {
         Figures {
             near: if iae { 0 } else { self.near },
             far: if iae || biae { 0 } else { self.far },
             near_ds: self.near_ds && !iae,
             far_ds: self.far_ds && !iae && !biae,
+            sum: if iae || biae { 0 } else { self.sum },
         }
     }
-    /// As they stand in a line and in a record.
-    pub fn four(&self) -> [u32; 4] {
-        [self.near, self.far, u32::from(self.near_ds), u32::from(self.far_ds)]
+    /// As they stand in a line and in a record: "the sum comes last in each layer's group".
+    pub fn five(&self) -> [u32; 5] {
+        [self.near, self.far, u32::from(self.near_ds), u32::from(self.far_ds), self.sum]
     }
 }
 

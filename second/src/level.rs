@@ -4,6 +4,7 @@
 //! Order in a frame: STAT, then trace and BDI, then dTIM, then dIAE and BIAE. What is forgotten: by SSF trace, BDI, BIAE and STAT;
 //! by dAIS trace, BDI and BIAE; by dTIM, acting or not, BIAE alone; by dLTC, dOCI and dLCK nothing.
 
+use crate::bei::Bei;
 use crate::history::{self, latest_row, latest_value, three_cycles, Figures, History, Seconds, Stretch, KEPT};
 use crate::provisioning::{LevelProvisioning, PATH};
 
@@ -72,7 +73,7 @@ impl Standing {
     pub fn diae(&self) -> bool {
         self.stat == Some(0b010) && !self.dtim
     }
-    /// SSF or one of the four defects that stop the counts of blocks: dAIS, dLTC, dOCI, dLCK.
+    /// SSF or one of the four defects that stop the counts of blocks, and so the sum: dAIS, dLTC, dOCI, dLCK.
     pub fn silent(&self) -> bool {
         self.ssf || self.dais() || self.dltc() || self.doci() || self.dlck()
     }
@@ -154,7 +155,7 @@ impl Level {
     /// "BIAE stands in BEI": 1011 in three frames in a row, cleared by three others, false during SSF, dAIS and dTIM.
     fn dbiae(&self, now: u64) -> bool {
         let h = &self.history;
-        let biae = |u: u64| h.at(u).received.bei == 0b1011;
+        let biae = |u: u64| Bei::of(h.at(u).received.bei) == Bei::Biae;
         latest_row(now, self.biae_forgotten, 3, biae, |u| h.at(u).standing.dbiae)
     }
 
@@ -179,14 +180,15 @@ impl Level {
         Standing { ddeg: self.ddeg(), ..frame }
     }
 
-    /// Near blocks, far blocks, near DS, far DS of a second, put to 0 and false by the level's own dIAE and dBIAE in some frame of
-    /// `voiding`.
+    /// Near blocks, far blocks, near DS, far DS and the sum of BEI numbers of a second, put to 0 and false by the level's own dIAE and
+    /// dBIAE in some frame of `voiding`.
     pub fn figures(&self, second: Stretch, voiding: Stretch) -> Figures {
         let mut all = Figures::default();
         for frame in self.history.of(second) {
             let (r, s) = (&frame.received, &frame.standing);
-            all.near += u32::from(!s.silent() && r.violations > 0);
-            all.far += u32::from(!s.silent() && (1..=8).contains(&r.bei));
+            if !s.silent() {
+                all.count(r.violations, Bei::of(r.bei));
+            }
             all.near_ds |= s.silent() || s.dtim;
             all.far_ds |= s.dbdi;
         }

@@ -3,7 +3,7 @@
 
 use crate::frame::{Sent, FAS};
 use crate::generate::{
-    act_dis, default_for_some, names, provisioning, traces, wandering_counts, with_marks, Generated, Item, Tti, Wave,
+    act_dis, another, default_for_some, names, provisioning, traces, wandering_counts, with_marks, Generated, Item, Tti, Wave,
 };
 use crate::level_cover::{self, AIS, BDI, BIAE, CONDITIONS, DEG, IAE, LCK, LTC, OCI, SSF, TIM};
 use crate::provisioning::{ceiling, LevelProvisioning, Provisioning, SECTION};
@@ -115,7 +115,7 @@ fn wander_level(rng: &mut Random, level: u8, names: &[u8; 32], counts: &[u8], fr
         l.tti = tti.next(rng, *count);
         l.stat = stat.next(rng);
         l.bdi = bdi.next(rng) == 1;
-        l.bei = bei.next(rng);
+        l.bei = another(bei.next(rng), f.ignored.rotate_left(u32::from(level)));
         l.violations = violations.next(rng);
     }
 }
@@ -261,6 +261,10 @@ fn blocks(rng: &mut Random, number: u64) -> Generated {
         for i in 0..b.frames.len() {
             let number = usize::from(first.wrapping_add(i as u8)) % 64;
             b.frames[i].tti[SECTION] = section[usize::from(b.section_wrong[i])][number];
+            // All codes in turn where dBIAE is not driven: far blocks of every number in every condition.
+            for (level, l) in b.frames[i].levels.iter_mut().enumerate().filter(|(_, l)| l.bei != 11) {
+                l.bei = [0, 1, 2, 3, 4, 5, 6, 7, 8, 9, 10, 12, 13, 14, 15][(i + level) % 15];
+            }
             for (level, mode, tti) in &of_level {
                 // The changed byte lies in the field that the mode compares.
                 let at = usize::from(*level) - 1;

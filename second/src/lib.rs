@@ -6,8 +6,11 @@
 //! takes up the answer recorded there, which is the same question put to the same history.
 //!
 //! The six tandem levels of document 02 (K1) are written the same way, each over its own history: `level.rs`. Of the pending second (K3)
-//! nothing is kept but which frames it has: what is told of it is asked when it is told. A summary (K6) is the sums over the seconds that it is of.
+//! nothing is kept but which frames it has: what is told of it is asked when it is told. A summary (K6) is the sums over the seconds that it is of. The sum of
+//! the far end's violations (K7) is asked as the far blocks are: of the frames of the second.
 
+pub mod bei;
+pub mod bei_cover;
 pub mod card;
 pub mod cases;
 pub mod causes_cover;
@@ -42,3 +45,6 @@ mod tests_seconds;
 
 #[cfg(test)]
 mod tests_summary;
+
+#[cfg(test)]
+mod tests_sums;

@@ -3,7 +3,7 @@
 use crate::summary::Summary;
 use crate::supervisor::Second;
 
-/// "Each S line gains the four figures of every provisioned level, lowest level first" (K1).
+/// "Each S line gains the .. figures of every provisioned level, lowest level first" (K1): five of them, as of section and path (K7).
 pub fn second(second: &Second) -> String {
     let levels = second.levels.iter().flatten().flatten();
     let figures: Vec<String> = second.figures.iter().chain(levels).map(u32::to_string).collect();

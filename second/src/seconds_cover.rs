@@ -45,10 +45,10 @@ pub struct SecondsCover {
     kept: [bool; 7],
 }
 
-/// The four figures of a party, none where it is a level that is not provisioned.
-fn four(second: &Second, party: usize) -> Option<[u32; 4]> {
+/// The figures of a party, none where it is a level that is not provisioned.
+fn five(second: &Second, party: usize) -> Option<[u32; 5]> {
     match party {
-        0 => Some([12, 13, 14, 15].map(|i| second.figures[i])),
+        0 => Some([12, 13, 14, 15, 16].map(|i| second.figures[i])),
         _ => second.levels[party - 1],
     }
 }
@@ -78,7 +78,7 @@ impl SecondsCover {
     pub fn mark(&mut self, s: &Supervisor) {
         if let Some(second) = s.pending() {
             for party in 0..7 {
-                if let Some(figures) = four(&second, party) {
+                if let Some(figures) = five(&second, party) {
                     self.second(party, figures, second.figures[1] == 0, threshold(s, party));
                 }
             }
@@ -87,7 +87,7 @@ impl SecondsCover {
     }
 
     /// A second that is reported, with its figures after its own discard.
-    fn second(&mut self, party: usize, [near, far, near_ds, far_ds]: [u32; 4], empty: bool, threshold: u32) {
+    fn second(&mut self, party: usize, [near, far, near_ds, far_ds, _]: [u32; 5], empty: bool, threshold: u32) {
         let (own, next) = (self.pending[party], self.open[party]);
         let clear = !own.iae && !own.biae;
         let quiet = !next.iae && !next.biae;
@@ -121,7 +121,7 @@ impl SecondsCover {
     pub fn end(&mut self, s: &Supervisor) {
         if let Some(second) = s.pending() {
             for party in 0..7 {
-                if let Some([near, far, _, _]) = four(&second, party) {
+                if let Some([near, far, ..]) = five(&second, party) {
                     self.rows[ROWS.len() - 2][party] += u64::from(self.open[party].iae && near > 0);
                     self.rows[ROWS.len() - 1][party] += u64::from(self.open[party].biae && far > 0);
                 }

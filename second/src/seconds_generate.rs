@@ -97,15 +97,17 @@ fn seconds(rng: &mut Random) -> Vec<Item> {
     items
 }
 
-/// One second and its mark, with a block and a far block of every party in nearly every frame, and what each party does in it.
+/// One second and its mark, with a block and a far block of every party in nearly every frame, of one violation to eight in turn, and what each
+/// party does in it.
 fn second(rng: &mut Random, items: &mut Vec<Item>, mfas: &mut u8, frames: u64, does: impl Fn(&mut Random) -> Does) {
     let mut sent: Vec<Sent> = (0..frames)
         .map(|_| {
-            let mut f = Sent { stat: 1, bei: [1, 1], violations: [1, 1], ..Sent::good(*mfas) };
-            *mfas = mfas.wrapping_add(1);
-            for l in &mut f.levels {
-                (l.stat, l.bei, l.violations) = (1, 1, 1);
+            let number = |party: u8| 1 + mfas.wrapping_add(party) % 8;
+            let mut f = Sent { stat: 1, bei: [number(0), number(1)], violations: [1, 1], ..Sent::good(*mfas) };
+            for (party, l) in (2..).zip(&mut f.levels) {
+                (l.stat, l.bei, l.violations) = (1, number(party), 1);
             }
+            *mfas = mfas.wrapping_add(1);
             if rng.once_in(8) {
                 (f.bei[SECTION], f.violations[SECTION]) = (rng.below(16) as u8, 0);
             }

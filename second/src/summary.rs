@@ -16,8 +16,11 @@ pub const DAY: u64 = 96 * QUARTER;
 /// "last second above 4,294,967,295" is refused.
 pub const LAST_SECOND: u64 = u32::MAX as u64;
 
-/// 21 numbers of 64 bits.
-pub const BYTES: usize = 168;
+/// The most that the far end's violations of a second can sum up to: eight in each frame.
+pub const FULL_SUM: u64 = 8 * FULL_SECOND;
+
+/// 23 numbers of 64 bits.
+pub const BYTES: usize = 184;
 
 /// By default the empty one: "the empty summary, whose first second is 0".
 #[derive(Clone, Copy, Debug, Default, PartialEq, Eq)]
@@ -26,12 +29,13 @@ pub struct Summary {
     pub length: u64,
     pub frames: u64,
     pub heads: [u64; 10],
-    /// Section and path: near blocks, far blocks, seconds with near DS, seconds with far DS.
-    pub layers: [[u64; 4]; 2],
+    /// Section and path: near blocks, far blocks, seconds with near DS, seconds with far DS, the sum of BEI violations.
+    pub layers: [[u64; 5]; 2],
 }
 
 impl Summary {
-    /// "counts and heads added in 64 bits, DS as seconds with DS; no tandem level's": of seconds that follow one another.
+    /// "counts and heads added in 64 bits, DS as seconds with DS; no tandem level's", and "summaries gain the sum" (K7): of seconds that follow one
+    /// another.
     pub fn of(seconds: &[Second]) -> Summary {
         let sum = |figure: usize| seconds.iter().map(|second| u64::from(second.figures[figure])).sum::<u64>();
         let with = |ds: usize| seconds.iter().filter(|second| second.figures[ds] == 1).count() as u64;
@@ -40,14 +44,14 @@ impl Summary {
             length: seconds.len() as u64,
             frames: sum(1),
             heads: std::array::from_fn(|head| sum(2 + head)),
-            layers: [12, 16].map(|at| [sum(at), sum(at + 1), with(at + 2), with(at + 3)]),
+            layers: [12, 17].map(|at| [sum(at), sum(at + 1), with(at + 2), with(at + 3), sum(at + 4)]),
         }
     }
 
-    /// Of the twenty figures of a record, which may be anything: a summary of length 1 with first = its number; or refusal 26.
-    pub fn of_record(figures: [u32; 20]) -> Result<Summary, u8> {
+    /// Of the first 22 figures of a record, which may be anything: a summary of length 1 with first = its number; or refusal 26.
+    pub fn of_record(figures: [u32; 22]) -> Result<Summary, u8> {
         let figures = figures.map(u64::from);
-        let mut numbers = [1; 21];
+        let mut numbers = [1; 23];
         numbers[0] = figures[0];
         numbers[2..].copy_from_slice(&figures[1..]);
         let summary = Summary::from(numbers);
@@ -57,17 +61,20 @@ impl Summary {
         Ok(summary)
     }
 
-    /// Whether a handed-in one is not refused with 26. That the heads add up to the frames is not asked.
+    /// Whether a handed-in one is not refused with 26. That the heads add up to the frames is not asked, nor how a sum stands to its far blocks.
     pub fn valid(&self) -> bool {
-        let count = |value: u64| u128::from(value) <= u128::from(FULL_SECOND) * u128::from(self.length);
+        let up_to = |most: u64, value: u64| u128::from(value) <= u128::from(most) * u128::from(self.length);
+        let count = |value: u64| up_to(FULL_SECOND, value);
         let ds = |value: u64| value <= self.length;
         self.length <= LONGEST
             && (self.first == 0) == (self.length == 0)
             && u128::from(self.first) + u128::from(self.length) <= u128::from(LAST_SECOND) + 1
-            && self.layers.iter().all(|[_, _, near_ds, far_ds]| ds(*near_ds) && ds(*far_ds))
+            && self.layers.iter().all(|[_, _, near_ds, far_ds, _]| ds(*near_ds) && ds(*far_ds))
             && count(self.frames)
             && self.heads.iter().all(|head| count(*head))
-            && self.layers.iter().all(|[near, far, _, _]| count(*near) && count(*far))
+            && self.layers.iter().all(|[near, far, _, _, _]| count(*near) && count(*far))
+            // "A handed-in sum above 3,200,000 times the length is 26" (K7).
+            && self.layers.iter().all(|[_, _, _, _, sum]| up_to(FULL_SUM, *sum))
     }
 
     pub fn is_empty(&self) -> bool {
@@ -97,21 +104,21 @@ impl Summary {
     }
 
     /// In the order in which they are stored and printed.
-    pub fn numbers(&self) -> [u64; 21] {
-        let mut all = [0; 21];
+    pub fn numbers(&self) -> [u64; 23] {
+        let mut all = [0; 23];
         all[..3].copy_from_slice(&[self.first, self.length, self.frames]);
         all[3..13].copy_from_slice(&self.heads);
-        all[13..17].copy_from_slice(&self.layers[SECTION]);
-        all[17..].copy_from_slice(&self.layers[PATH]);
+        all[13..18].copy_from_slice(&self.layers[SECTION]);
+        all[18..].copy_from_slice(&self.layers[PATH]);
         all
     }
 
     pub fn bytes(&self) -> [u8; BYTES] {
         let mut bytes = self.numbers().into_iter().flat_map(u64::to_le_bytes);
-        std::array::from_fn(|_| bytes.next().expect("there are 168"))
+        std::array::from_fn(|_| bytes.next().expect("there are 184"))
     }
 
-    /// What 168 bytes say, valid or not; of another length they are none.
+    /// What 184 bytes say, valid or not; of another length they are none.
     pub fn from_bytes(bytes: &[u8]) -> Option<Summary> {
         let bytes: &[u8; BYTES] = bytes.try_into().ok()?;
         let number = |i: usize| u64::from_le_bytes(std::array::from_fn(|at| bytes[8 * i + at]));
@@ -119,11 +126,11 @@ impl Summary {
     }
 }
 
-impl From<[u64; 21]> for Summary {
-    fn from(numbers: [u64; 21]) -> Summary {
+impl From<[u64; 23]> for Summary {
+    fn from(numbers: [u64; 23]) -> Summary {
         let [first, length, frames, ..] = numbers;
         let heads = std::array::from_fn(|head| numbers[3 + head]);
-        let layers = [13, 17].map(|at| std::array::from_fn(|i| numbers[at + i]));
+        let layers = [13, 18].map(|at| std::array::from_fn(|i| numbers[at + i]));
         Summary { first, length, frames, heads, layers }
     }
 }

@@ -87,12 +87,24 @@ fn frames_in(rng: &mut Random, seconds: u64) -> Vec<u64> {
         .collect()
 }
 
-/// What number `i` of a summary may be for each second: a DS, or a count or head.
+/// The numbers of a summary that are sums of BEI violations.
+const SUMS: [usize; 2] = [17, 22];
+
+/// What number `i` of a summary may be for each second: a DS, a sum, or a count or head.
 fn most(i: usize) -> u64 {
     match i {
-        15 | 16 | 19 | 20 => 1,
+        15 | 16 | 20 | 21 => 1,
+        _ if SUMS.contains(&i) => 3_200_000,
         _ => 400_000,
     }
+}
+
+/// Any of the 23 numbers, more often a sum.
+fn any_number(rng: &mut Random) -> usize {
+    if rng.once_in(4) {
+        return rng.pick(&SUMS);
+    }
+    rng.below(23) as usize
 }
 
 /// A number up to `most`: 0, all of it, some or a few.
@@ -169,7 +181,7 @@ pub fn two(rng: &mut Random) -> (Summary, Summary) {
 pub fn damaged(rng: &mut Random, summary: &Summary) -> Summary {
     let mut numbers = summary.numbers();
     let length = numbers[1];
-    let i = rng.below(21) as usize;
+    let i = any_number(rng);
     match (rng.below(4), i) {
         (0, _) => numbers[i] = rng.next() >> rng.below(64),
         (1, _) => numbers[0] = LAST_SECOND + 2 - length,
@@ -195,10 +207,11 @@ fn damaged_bytes(rng: &mut Random, summary: &Summary) -> Vec<u8> {
 fn record(rng: &mut Random) -> Vec<u8> {
     let mut figures: [u32; RECORD / 4] = std::array::from_fn(|i| match i {
         0 => rng.within(1, LAST_SECOND) as u32,
-        1..=19 => up_to(rng, most(i + 1)) as u32,
+        1..=21 => up_to(rng, most(i + 1)) as u32,
         _ => rng.next() as u32,
     });
-    let i = rng.below(20) as usize;
+    // A record has no length.
+    let i = any_number(rng).saturating_sub(1);
     match (rng.below(6), i) {
         (0, _) => figures[i] = (rng.next() >> rng.below(64)) as u32,
         (1, _) => figures[0] = rng.pick(&[0, u32::MAX]),
@@ -210,7 +223,7 @@ fn record(rng: &mut Random) -> Vec<u8> {
         rng.fill(&mut bytes);
     }
     if rng.once_in(3) {
-        bytes.resize(rng.pick(&[0, 1, 4, 76, 79, 80, 81, RECORD - 1, RECORD + 1, 200]), 0);
+        bytes.resize(rng.pick(&[0, 1, 4, 80, 87, 88, 89, RECORD - 1, RECORD + 1, 240]), 0);
     }
     bytes
 }

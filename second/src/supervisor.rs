@@ -1,5 +1,6 @@
 //! The supervisor: each rule of document 01 as a question to the history. The tandem levels stand beside it, in `level.rs`.
 
+use crate::bei::Bei;
 use crate::history::{
     latest_row, latest_value, three_cycles, Figures, History, Received, Seconds, Standing, Stretch, KEPT, WINDOW,
 };
@@ -10,11 +11,11 @@ use std::collections::VecDeque;
 
 pub const FULL_SECOND: u64 = 400_000;
 
-/// A second that is told: the twenty figures of line, section and path, and the four of each level that is provisioned.
+/// A second that is told: the 22 figures of line, section and path, and the five of each level that is provisioned.
 #[derive(Clone, Copy, Debug, PartialEq, Eq)]
 pub struct Second {
-    pub figures: [u32; 20],
-    pub levels: [Option<[u32; 4]>; 6],
+    pub figures: [u32; 22],
+    pub levels: [Option<[u32; 5]>; 6],
 }
 
 #[derive(Clone, Debug)]
@@ -238,7 +239,7 @@ impl Supervisor {
         }
         let h = &self.history;
         s.diae = latest_row(now, self.iae_forgotten, 5, |u| h.at(u).received.iae, |u| h.at(u).standing.diae);
-        let biae = |u: u64| h.at(u).received.bei[SECTION] == 0b1011;
+        let biae = |u: u64| Bei::of(h.at(u).received.bei[SECTION]) == Bei::Biae;
         s.dbiae = latest_row(now, self.iae_forgotten, 3, biae, |u| h.at(u).standing.dbiae);
     }
 
@@ -313,28 +314,30 @@ impl Supervisor {
         if self.closed == 0 {
             return None;
         }
-        let mut figures = [0; 20];
+        let mut figures = [0; 22];
         (figures[0], figures[1]) = (self.closed as u32, self.pending.frames() as u32);
         for frame in self.history.of(self.pending) {
             figures[2 + report::head(&frame.standing) as usize] += 1;
         }
         for layer in [SECTION, PATH] {
-            let four = self.figures(layer, self.pending, voiding).four();
-            figures[12 + 4 * layer..16 + 4 * layer].copy_from_slice(&four);
+            let five = self.figures(layer, self.pending, voiding).five();
+            figures[12 + 5 * layer..17 + 5 * layer].copy_from_slice(&five);
         }
-        let levels = self.levels.each_ref().map(|level| Some(level.as_ref()?.figures(self.pending, voiding).four()));
+        let levels = self.levels.each_ref().map(|level| Some(level.as_ref()?.figures(self.pending, voiding).five()));
         Some(Second { figures, levels })
     }
 
-    /// Near blocks, far blocks, near DS, far DS of a layer in a second, the section's put to 0 and false by dIAE and dBIAE in some frame of
-    /// `voiding`; the path has neither.
+    /// Near blocks, far blocks, near DS, far DS and the sum of BEI numbers of a layer in a second, the section's put to 0 and false by dIAE
+    /// and dBIAE in some frame of `voiding`; the path has neither.
     fn figures(&self, layer: usize, second: Stretch, voiding: Stretch) -> Figures {
         let mut all = Figures::default();
         for frame in self.history.of(second) {
             let (r, s) = (&frame.received, &frame.standing);
             let silent = s.ssf[layer] || (layer == PATH && (s.dais() || s.doci() || s.dlck()));
-            all.near += u32::from(!silent && r.violations[layer] > 0);
-            all.far += u32::from(!silent && (1..=8).contains(&r.bei[layer]));
+            if !silent {
+                let bei = if layer == PATH { Bei::of_path } else { Bei::of };
+                all.count(r.violations[layer], bei(r.bei[layer]));
+            }
             all.near_ds |= silent || s.dtim[layer];
             all.far_ds |= s.dbdi[layer];
         }

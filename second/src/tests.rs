@@ -59,7 +59,7 @@ impl Run {
         head(&self.s.standing())
     }
     /// A mark, and the second that it closed, with its own discard alone.
-    fn mark(&mut self) -> [u32; 20] {
+    fn mark(&mut self) -> [u32; 22] {
         self.s.mark().unwrap();
         self.s.pending().unwrap().figures
     }
@@ -92,7 +92,7 @@ fn worked_example() {
         t.frame(&[0; 64], 1, 0, 0);
     }
     t.mark();
-    assert_eq!(list(&t.0), "S 1 2 0 2 0 0 0 0 0 0 0 0 0 0 1 0 0 0 1 0\nE 1 2\n");
+    assert_eq!(list(&t.0), "S 1 2 0 2 0 0 0 0 0 0 0 0 0 0 1 0 0 0 0 1 0 0\nE 1 2\n");
     assert_eq!(list(&[]), "E 0 0\n");
 }
 
@@ -159,8 +159,9 @@ fn case_j() {
             let mut r = after_c();
             r.next(|f| f.bei[layer] = bei);
             let second = r.mark();
-            assert_eq!(second[13 + 4 * layer], u32::from((1..=8).contains(&bei)), "BEI {bei}");
-            assert_eq!(second[12 + 4 * layer], 0);
+            let number = if (1..=8).contains(&bei) { u32::from(bei) } else { 0 };
+            assert_eq!(second[12 + 5 * layer..17 + 5 * layer], [0, number.min(1), 0, 0, number], "BEI {bei}");
+            assert_eq!(second[17 - 5 * layer..22 - 5 * layer], [0; 5], "BEI {bei}");
         }
     }
 }
@@ -557,7 +558,7 @@ fn reading_18_counting() {
             f.bei = [1, 8]
         });
     }
-    assert_eq!(r.mark(), [1, 7, 5, 2, 0, 0, 0, 0, 0, 0, 0, 0, 2, 2, 1, 0, 2, 2, 1, 0]);
+    assert_eq!(r.mark(), [1, 7, 5, 2, 0, 0, 0, 0, 0, 0, 0, 0, 2, 2, 1, 0, 2, 2, 2, 1, 0, 16]);
 }
 
 #[test]
@@ -566,10 +567,10 @@ fn reading_19_ds() {
     r.good(3);
     r.until(63, |_| {});
     accept(&mut r, [1, 1]);
-    assert_eq!(r.mark()[12..], [0, 0, 1, 0, 0, 0, 1, 0]);
-    assert_eq!(r.mark()[1..], [0; 19]);
+    assert_eq!(r.mark()[12..], [0, 0, 1, 0, 0, 0, 0, 1, 0, 0]);
+    assert_eq!(r.mark()[1..], [0; 21]);
     r.next(|f| f.violations = [1, 1]);
-    assert_eq!(r.mark()[12..], [1, 0, 1, 0, 1, 0, 1, 0]);
+    assert_eq!(r.mark()[12..], [1, 0, 1, 0, 0, 1, 0, 1, 0, 0]);
 }
 
 #[test]
@@ -584,7 +585,7 @@ fn reading_20_discard() {
         });
     }
     r.next(|f| f.flags = 1);
-    assert_eq!(r.mark(), [1, 9, 8, 1, 0, 0, 0, 0, 0, 0, 0, 0, 0, 0, 0, 0, 5, 5, 1, 1]);
+    assert_eq!(r.mark(), [1, 9, 8, 1, 0, 0, 0, 0, 0, 0, 0, 0, 0, 0, 0, 0, 0, 5, 5, 1, 1, 5]);
     // dBIAE: the far values alone.
     let mut r = after_c();
     for bei in [1, 11, 11, 11, 1] {
@@ -594,7 +595,7 @@ fn reading_20_discard() {
             f.bdi[0] = true
         });
     }
-    assert_eq!(r.mark()[12..16], [5, 0, 0, 0]);
+    assert_eq!(r.mark()[12..17], [5, 0, 0, 0, 0]);
 }
 
 #[test]
@@ -710,7 +711,7 @@ fn directed_cases() {
         assert_eq!(quarters(&case.bytes), case.quarters, "{path:?}");
         count += 1;
     }
-    assert_eq!(count, 151);
+    assert_eq!(count, 172);
 }
 
 #[test]

@@ -167,11 +167,12 @@ struct Counters {
     far: u32,
     near_ds: bool,
     far_ds: bool,
+    sum: u32,
     iae: bool,
     discard_far: bool,
     deg: (bool, u8),
     /// The second closed last, after its own discard.
-    pending: Option<[u32; 4]>,
+    pending: Option<[u32; 5]>,
 }
 
 /// A defect that changes after `n` in a row of the other sort: what stands, and how many there were.
@@ -222,7 +223,10 @@ impl Counters {
         let s = Standing { ssf, stat: self.stat, dtim: tim, acting, dbdi: self.bdi.0, dbiae: self.biae.0, ddeg: self.deg.0 };
         let failed = ssf || matches!(self.stat, Some(0 | 5 | 6 | 7));
         self.near += u32::from(r.violations > 0 && !failed);
-        self.far += u32::from((1..9).contains(&r.bei) && !failed);
+        if (1..9).contains(&r.bei) && !failed {
+            self.far += 1;
+            self.sum += u32::from(r.bei);
+        }
         self.near_ds |= failed || tim;
         self.far_ds |= self.bdi.0;
         self.iae |= self.stat == Some(2) && !tim;
@@ -231,14 +235,15 @@ impl Counters {
     }
 
     /// The figures that are reported, and those of the second just closed are pending.
-    fn mark(&mut self, p: &LevelProvisioning) -> Option<[u32; 4]> {
+    fn mark(&mut self, p: &LevelProvisioning) -> Option<[u32; 5]> {
         let [iae, biae] = [self.iae, self.iae || self.discard_far].map(|void| u32::from(!void));
-        let reported = self.pending.map(|[near, far, near_ds, far_ds]| [near * iae, far * biae, near_ds * iae, far_ds * biae]);
-        let near = [self.near, u32::from(self.near_ds)].map(|figure| if self.iae { 0 } else { figure });
-        let far = [self.far, u32::from(self.far_ds)].map(|figure| if self.iae || self.discard_far { 0 } else { figure });
-        filter(&mut self.deg, near[0] >= p.degthr, p.degm);
-        (self.near, self.far, self.near_ds, self.far_ds, self.iae, self.discard_far) = Default::default();
-        self.pending = Some([near[0], far[0], near[1], far[1]]);
+        let kept =
+            |[near, far, near_ds, far_ds, sum]: [u32; 5]| [near * iae, far * biae, near_ds * iae, far_ds * biae, sum * biae];
+        let reported = self.pending.map(kept);
+        let own = kept([self.near, self.far, u32::from(self.near_ds), u32::from(self.far_ds), self.sum]);
+        filter(&mut self.deg, own[0] >= p.degthr, p.degm);
+        (self.near, self.far, self.near_ds, self.far_ds, self.sum, self.iae, self.discard_far) = Default::default();
+        self.pending = Some(own);
         reported
     }
 }
@@ -283,7 +288,7 @@ fn counters_tell_the_same() {
     }
 }
 
-/// Line, section, path, heads and the twenty figures answer as if there were no levels.
+/// Line, section, path, heads and the 22 figures answer as if there were no levels.
 #[test]
 fn levels_are_silent() {
     for index in 0..60 {
@@ -422,16 +427,16 @@ fn calls_answer_what_is_listed() {
         }
         let mut listed = String::new();
         let (mut marks, mut frames) = (0, 0);
-        // The line of a record of 44 figures, with nothing written past it.
+        // The line of a record of 52 figures, with nothing written past it.
         let line = |bytes: &[u8; RECORD + 4]| {
             assert_eq!(bytes[RECORD..], [0xEE; 4]);
-            let figures: Vec<u32> = bytes.chunks(4).map(|w| u32::from_le_bytes(w.try_into().unwrap())).take(44).collect();
-            let mut printed: Vec<u32> = figures[..20].to_vec();
+            let figures: Vec<u32> = bytes.chunks(4).map(|w| u32::from_le_bytes(w.try_into().unwrap())).take(52).collect();
+            let mut printed: Vec<u32> = figures[..22].to_vec();
             for level in 1..=6u8 {
-                let four = &figures[20 + 4 * (usize::from(level) - 1)..][..4];
+                let five = &figures[22 + 5 * (usize::from(level) - 1)..][..5];
                 match g.levels.iter().any(|(l, _)| *l == level) {
-                    true => printed.extend(four),
-                    false => assert_eq!(four, [0; 4]),
+                    true => printed.extend(five),
+                    false => assert_eq!(five, [0; 5]),
                 }
             }
             format!("S {}\n", printed.iter().map(u32::to_string).collect::<Vec<_>>().join(" "))
@@ -583,11 +588,11 @@ fn what_the_readings_tell() {
     let mut record = [0; RECORD];
     card.mark(true, &mut []);
     assert_eq!(card.pending(true, &mut record), TOLD);
-    assert_eq!(record[4 * 40..], [193, 0, 0, 0, 0, 0, 0, 0, 0, 0, 0, 0, 0, 0, 0, 0]);
+    assert_eq!(record[4 * 47..], [193, 0, 0, 0, 0, 0, 0, 0, 0, 0, 0, 0, 0, 0, 0, 0, 0, 0, 0, 0]);
     frame(&mut card, 448, 1);
     assert_eq!(card.level_report(true, 6), 1 << 8);
     assert_eq!(card.mark(true, &mut record), TOLD);
-    assert_eq!(record[4 * 40..4 * 41], [193, 0, 0, 0]);
+    assert_eq!(record[4 * 47..4 * 48], [193, 0, 0, 0]);
     // dDEG, aTSD, cDEG.
     assert_eq!(card.level_report(true, 6), 1 << 8 | 1 << 18 | 1 << 20 | 1 << 26);
     card.mark(true, &mut []);
@@ -696,7 +701,7 @@ fn the_words_of_a_level() {
     let expected = format!(
         "F 1 2 2 +IF\nF 1 3 3 +IM\n\
          F 1 194 194 +TCM3.dTIM +TCM3.cTIM +TCM6.dTIM +TCM6.aTSF +TCM6.cTIM SM.trace=\"{dots}\" PM.trace=\"{dots}\" TCM3.trace=\"{x}\" TCM6.trace=\"{x}\"\n\
-         S 1 194 194 0 0 0 0 0 0 0 0 0 0 0 0 0 0 0 0 0 0 0 1 0 193 0 1 0\n\
+         S 1 194 194 0 0 0 0 0 0 0 0 0 0 0 0 0 0 0 0 0 0 0 0 0 1 0 0 193 0 1 0 0\n\
          F 3 1 196 +TCM6.dDEG +TCM6.aTSD\n\
          F 3 2 197 +TSF-P +SM.SSF +PM.SSF +SM.aTSF +SM.aBDI +PM.aTSF +PM.aBDI +SM.cSSF +PM.cSSF \
          +TCM3.SSF -TCM3.dTIM +TCM3.aTSF +TCM3.cSSF -TCM3.cTIM +TCM6.SSF -TCM6.dTIM +TCM6.cSSF -TCM6.cTIM head=1 \
@@ -704,7 +709,7 @@ fn the_words_of_a_level() {
          F 3 3 198 -TSF-P -SM.SSF -PM.SSF -SM.aTSF -SM.aBDI -PM.aTSF -PM.aBDI -SM.cSSF -PM.cSSF \
          -TCM3.SSF -TCM3.aTSF -TCM3.cSSF -TCM6.SSF -TCM6.aTSF -TCM6.cSSF +TCM6.cDEG head=0\n\
          F 3 5 200 +TCM3.dLTC +TCM3.aTSF +TCM3.cLTC +TCM6.dAIS +TCM6.aTSF +TCM6.cSSF -TCM6.cDEG\n\
-         S 2 1 1 0 0 0 0 0 0 0 0 0 0 0 0 0 0 0 0 0 0 0 1 0 1 0 1 0\n\
+         S 2 1 1 0 0 0 0 0 0 0 0 0 0 0 0 0 0 0 0 0 0 0 0 0 1 0 0 1 0 1 0 0\n\
          E 2 200\n"
     );
     assert_eq!(explain(&t.0), expected);

@@ -47,13 +47,13 @@ fn the_traces_exercise_every_row() {
     assert_eq!(wrong, Vec::<String>::new());
 }
 
-/// What the section and the levels have of a closed second before any discard, and what stood in it. The path's four are never discarded.
+/// What the section and the levels have of a closed second before any discard, and what stood in it. The path's five are never discarded.
 #[derive(Clone, Default)]
 struct Tally {
     frames: u32,
     heads: [u32; 10],
     /// Section, path, levels 1 to 6.
-    raw: [[u32; 4]; 8],
+    raw: [[u32; 5]; 8],
     iae: [bool; 8],
     biae: [bool; 8],
 }
@@ -81,31 +81,32 @@ impl Tally {
     }
 
     fn count(&mut self, at: usize, silent: bool, violations: u8, bei: u8, near_ds: bool, far_ds: bool) {
-        let four = &mut self.raw[at];
-        four[0] += u32::from(violations > 0 && !silent);
-        four[1] += u32::from(bei > 0 && bei < 9 && !silent);
-        four[2] |= u32::from(near_ds);
-        four[3] |= u32::from(far_ds);
+        let five = &mut self.raw[at];
+        five[0] += u32::from(violations > 0 && !silent);
+        five[1] += u32::from(bei > 0 && bei < 9 && !silent);
+        five[2] |= u32::from(near_ds);
+        five[3] |= u32::from(far_ds);
+        five[4] += if bei < 9 && !silent { u32::from(bei) } else { 0 };
     }
 
     /// Second `number` as it is told: voided by itself and by those in `next`, which is the second after it or nothing.
     fn told(&self, number: u32, next: Option<&Tally>, s: &Supervisor) -> Second {
         let by = |what: fn(&Tally) -> &[bool; 8], at: usize| what(self)[at] || next.is_some_and(|next| what(next)[at]);
-        let four: [[u32; 4]; 8] = std::array::from_fn(|at| {
+        let five: [[u32; 5]; 8] = std::array::from_fn(|at| {
             let (iae, biae) = (by(|t| &t.iae, at), by(|t| &t.biae, at));
-            let [near, far, near_ds, far_ds] = self.raw[at];
+            let [near, _, near_ds, _, _] = self.raw[at];
             match (iae, biae) {
-                (true, _) => [0; 4],
-                (false, true) => [near, 0, near_ds, 0],
-                (false, false) => [near, far, near_ds, far_ds],
+                (true, _) => [0; 5],
+                (false, true) => [near, 0, near_ds, 0, 0],
+                (false, false) => self.raw[at],
             }
         });
-        let mut figures = [0; 20];
+        let mut figures = [0; 22];
         (figures[0], figures[1]) = (number, self.frames);
         figures[2..12].copy_from_slice(&self.heads);
-        figures[12..16].copy_from_slice(&four[0]);
-        figures[16..20].copy_from_slice(&four[1]);
-        Second { figures, levels: std::array::from_fn(|i| s.level(i as u8 + 1).map(|_| four[2 + i])) }
+        figures[12..17].copy_from_slice(&five[0]);
+        figures[17..22].copy_from_slice(&five[1]);
+        Second { figures, levels: std::array::from_fn(|i| s.level(i as u8 + 1).map(|_| five[2 + i])) }
     }
 }
 
@@ -186,8 +187,8 @@ fn a_refused_mark_keeps_the_pending_second() {
     let mut s = Supervisor::fresh(plain(1)).with_closed(u64::from(u32::MAX) - 1);
     good_frames(&mut s, 6, |_| {});
     let reported = s.mark().unwrap().unwrap();
-    assert_eq!((reported.figures[0], &reported.figures[1..]), (u32::MAX - 1, &[0; 19][..]));
-    let expected = [u32::MAX, 6, 6, 0, 0, 0, 0, 0, 0, 0, 0, 0, 6, 6, 0, 0, 6, 6, 0, 0];
+    assert_eq!((reported.figures[0], &reported.figures[1..]), (u32::MAX - 1, &[0; 21][..]));
+    let expected = [u32::MAX, 6, 6, 0, 0, 0, 0, 0, 0, 0, 0, 0, 6, 6, 0, 0, 6, 6, 6, 0, 0, 6];
     assert_eq!(s.pending().unwrap().figures, expected);
     good_frames(&mut s, 5, |f| f.iae = true);
     assert!(s.standing().diae);
@@ -219,10 +220,10 @@ fn what_the_calls_answer() {
     for _ in 0..2 {
         assert_eq!(card.pending(true, &mut record), TOLD);
         assert_eq!((&record[..12], &record[RECORD..]), (&[1, 0, 0, 0, 3, 0, 0, 0, 3, 0, 0, 0][..], &[9; 8][..]));
-        assert_eq!(record[48..64], [3, 0, 0, 0, 3, 0, 0, 0, 0, 0, 0, 0, 0, 0, 0, 0]);
+        assert_eq!(record[48..68], [3, 0, 0, 0, 3, 0, 0, 0, 0, 0, 0, 0, 0, 0, 0, 0, 3, 0, 0, 0]);
         record = [9; RECORD + 8];
     }
-    for room in [0, 1, 7, 48, 50, 175, 176, 177] {
+    for room in [0, 1, 7, 48, 50, 207, 208, 209] {
         assert_eq!(card.pending(true, &mut record[..room]), TOLD);
         assert_eq!(record[room.min(RECORD)..], [9; RECORD + 8][room.min(RECORD)..]);
         record = [9; RECORD + 8];
@@ -231,7 +232,7 @@ fn what_the_calls_answer() {
     good_frames(card.supervisor.as_mut().unwrap(), 5, |f| f.iae = true);
     assert_eq!((card.pending(true, &mut record), &record[48..52]), (TOLD, &[3, 0, 0, 0][..]));
     assert_eq!((card.mark(true, &mut record), &record[..8]), (TOLD, &[1, 0, 0, 0, 3, 0, 0, 0][..]));
-    assert_eq!((&record[48..64], &record[64..68]), (&[0; 16][..], &[3, 0, 0, 0][..]));
+    assert_eq!((&record[48..68], &record[68..72]), (&[0; 20][..], &[3, 0, 0, 0][..]));
     assert_eq!((card.pending(true, &mut record), &record[..8]), (TOLD, &[2, 0, 0, 0, 5, 0, 0, 0][..]));
     // Anew nothing is pending.
     card.fresh(true, Ok(plain(1)));

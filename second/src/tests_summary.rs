@@ -10,7 +10,7 @@ use crate::summary_cover::SummaryCover;
 use crate::summary_generate::{damaged, following, handed, trace, two, valid};
 use crate::supervisor::Second;
 
-const EMPTY: Summary = Summary { first: 0, length: 0, frames: 0, heads: [0; 10], layers: [[0; 4]; 2] };
+const EMPTY: Summary = Summary { first: 0, length: 0, frames: 0, heads: [0; 10], layers: [[0; 5]; 2] };
 
 /// So many seconds from this one on, their figures anything that a reported second may have; a level's are there too.
 fn seconds(rng: &mut Random, first: u64, length: u64) -> Vec<Second> {
@@ -18,10 +18,11 @@ fn seconds(rng: &mut Random, first: u64, length: u64) -> Vec<Second> {
         .map(|number| {
             let figures = std::array::from_fn(|i| match i {
                 0 => number as u32,
-                14 | 15 | 18 | 19 => rng.below(2) as u32,
+                14 | 15 | 19 | 20 => rng.below(2) as u32,
+                16 | 21 => rng.pick(&[0, 1, 3_200_000, 3_199_999, 401_000]),
                 _ => rng.pick(&[0, 1, 400_000, 399_999, 77]),
             });
-            Second { figures, levels: [Some([9, 9, 1, 1]), None, None, None, None, None] }
+            Second { figures, levels: [Some([9, 9, 1, 1, 9]), None, None, None, None, None] }
         })
         .collect()
 }
@@ -54,8 +55,8 @@ fn the_empty_one_is_the_unit() {
         assert_eq!((s.join(&EMPTY), EMPTY.join(&s)), (Ok(s), Ok(s)));
     }
     // It is the only one of length 0, or from second 0 on.
-    for i in 0..21 {
-        let mut numbers = [0; 21];
+    for i in 0..23 {
+        let mut numbers = [0; 23];
         numbers[i] = 1;
         assert!(!Summary::from(numbers).valid(), "number {i}");
     }
@@ -150,7 +151,8 @@ fn the_last_quarter_hour() {
     assert_eq!(last.join(&rest).map(|both| both.length), Ok(1_695));
 }
 
-/// In every stretch of a history the ten heads add up to the frames, the blocks of a layer are at most the frames, and neighbours join.
+/// In every stretch of a history the ten heads add up to the frames, the blocks of a layer are at most the frames, its sum is at least its far blocks and
+/// at most eight times them, and neighbours join.
 #[test]
 fn stretches_of_a_history() {
     let mut rng = Random::new(6);
@@ -162,7 +164,8 @@ fn stretches_of_a_history() {
             let [earlier, later, both] = [cut[0]..cut[1], cut[1]..cut[2], cut[0]..cut[2]].map(|range| Summary::of(&all[range]));
             assert_eq!(earlier.join(&later), Ok(both));
             assert_eq!(both.heads.iter().sum::<u64>(), both.frames);
-            assert!(both.layers.iter().all(|[near, far, _, _]| *near <= both.frames && *far <= both.frames));
+            assert!(both.layers.iter().all(|[near, far, ..]| *near <= both.frames && *far <= both.frames));
+            assert!(both.layers.iter().all(|[_, far, _, _, sum]| far <= sum && *sum <= 8 * far));
         }
     }
 }
@@ -181,7 +184,13 @@ fn what_is_not_valid() {
         }
     }
     assert!(refused > 10_000);
-    let odd = Summary { first: 1, length: 1, frames: 0, heads: [400_000; 10], layers: [[0, 400_000, 1, 1]; 2] };
+    let odd = Summary {
+        first: 1,
+        length: 1,
+        frames: 0,
+        heads: [400_000; 10],
+        layers: [[0, 400_000, 1, 1, 0], [0, 0, 1, 1, 3_200_000]],
+    };
     assert_eq!(odd.join(&EMPTY), Ok(odd));
 }
 
@@ -193,12 +202,12 @@ fn bytes_there_and_back() {
         let s = Summary::from(numbers);
         assert_eq!((s.numbers(), Summary::from_bytes(&s.bytes())), (numbers, Some(s)));
     }
-    let s = Summary { first: 0x0102_0304_0506_0708, layers: [[0; 4], [0, 0, 0, 0xFF00]], ..EMPTY };
-    assert_eq!((&s.bytes()[..9], &s.bytes()[158..]), (&[8, 7, 6, 5, 4, 3, 2, 1, 0][..], &[0, 0, 0, 0xFF, 0, 0, 0, 0, 0, 0][..]));
+    let s = Summary { first: 0x0102_0304_0506_0708, layers: [[0; 5], [0, 0, 0, 0, 0xFF00]], ..EMPTY };
+    assert_eq!((&s.bytes()[..9], &s.bytes()[174..]), (&[8, 7, 6, 5, 4, 3, 2, 1, 0][..], &[0, 0, 0, 0xFF, 0, 0, 0, 0, 0, 0][..]));
     assert_eq!((Summary::from_bytes(&[0; BYTES - 1]), Summary::from_bytes(&[0; BYTES + 1])), (None, None));
 }
 
-/// A refused call changes no byte; an accepted one fills what the output has room for, and nothing after the 168.
+/// A refused call changes no byte; an accepted one fills what the output has room for, and nothing after the 184.
 #[test]
 fn what_the_calls_answer() {
     let mut rng = Random::new(10);
@@ -214,17 +223,17 @@ fn what_the_calls_answer() {
             assert!(left.iter().all(|byte| *byte == 0xEE));
         }
     }
-    // The first 80 bytes of a record are read.
-    let mut record = [0xFF; 177];
-    record[..80].fill(0);
+    // The first 88 bytes of a record are read.
+    let mut record = [0xFF; 209];
+    record[..88].fill(0);
     record[0] = 3;
     let mut out = [0; BYTES];
-    for (length, word) in [(0, 26), (79, 26), (80, 0), (81, 0), (176, 0), (177, 0)] {
+    for (length, word) in [(0, 26), (80, 26), (87, 26), (88, 0), (89, 0), (208, 0), (209, 0)] {
         assert_eq!(summary(&record[..length], &mut out), word, "{length} bytes");
     }
     assert_eq!(Summary::from_bytes(&out), Some(Summary { first: 3, length: 1, ..EMPTY }));
-    // A summary has 168 bytes.
-    for length in [0, BYTES - 1, BYTES + 1, 2 * BYTES] {
+    // A summary has 184 bytes; before K7 it had 168.
+    for length in [0, 168, BYTES - 1, BYTES + 1, 2 * BYTES] {
         let bytes = vec![0; length];
         assert_eq!((join(&bytes, &EMPTY.bytes(), &mut out), join(&EMPTY.bytes(), &bytes, &mut out)), (26, 26));
     }
@@ -271,11 +280,11 @@ fn one_mark_late() {
     let mut t = Trace::default();
     t.provisioning(&plain(1));
     (0..900).for_each(|_| t.mark());
-    let whole = format!("Q 0 1 900{}\n", " 0".repeat(19));
-    let day = |length: u64| format!("D 0 1 {length}{}\n", " 0".repeat(19));
+    let whole = format!("Q 0 1 900{}\n", " 0".repeat(21));
+    let day = |length: u64| format!("D 0 1 {length}{}\n", " 0".repeat(21));
     assert_eq!(quarters(&t.0), format!("{whole}{}E 900 0\n", day(900)));
     t.mark();
-    let rest = format!("Q 1 901 1{}\n", " 0".repeat(19));
+    let rest = format!("Q 1 901 1{}\n", " 0".repeat(21));
     assert_eq!(quarters(&t.0), format!("{whole}{rest}{}E 901 0\n", day(901)));
 }
 

@@ -1,4 +1,5 @@
-//! A trace of kinds 1 to 3 prints what it printed before there were levels, but for what request K3 moved and voided; where one had 2 in TIMActDis it has an explicit 0 since K5.
+//! A trace of kinds 1 to 3 prints what it printed before there were levels, but for what request K3 moved and voided and for the sums of K7; where one had 2 in TIMActDis
+//! it has an explicit 0 since K5, and since K7 some of its BEI are others that say the same.
 
 use second::explain::explain;
 use second::generate;
@@ -16,6 +17,16 @@ fn listed_before(bytes: &[u8]) -> String {
         Place::Mark(_) => listing::second(&supervisor.pending().expect("a mark leaves a second pending")),
         _ => String::new(),
     })
+}
+
+/// What is printed, as it was before K7: without the sums, the last of the section's five figures and of the path's.
+fn without_sums(text: &str) -> String {
+    let line = |line: &str| {
+        let sum = |at: usize| line.starts_with('S') && (at == 17 || at == 22);
+        let kept: Vec<&str> = line.split(' ').enumerate().filter(|(at, _)| !sum(*at)).map(|(_, word)| word).collect();
+        kept.join(" ") + "\n"
+    };
+    text.lines().map(line).collect()
 }
 
 /// The number that a line has first.
@@ -38,16 +49,16 @@ fn explained_before(bytes: &[u8]) -> String {
     out
 }
 
-/// The listings and explanations of traces by seed, as one number. It holds where what K3 changed is undone: that a report comes one mark late, and that the
-/// second after voids it too. It was taken before K5, while 2 in TIMActDis acted, of the traces that had it; another one, which had the traces in it too, was
-/// taken before the levels were written, and held until then.
+/// The listings and explanations of traces by seed, as one number. It holds where what K3 changed is undone, that a report comes one mark late and that the
+/// second after voids it too, and what K7 did, that there are sums. It was taken before K5, while 2 in TIMActDis acted, of the traces that had it; another one,
+/// which had the traces in it too, was taken before the levels were written, and held until then.
 #[test]
 fn traces_without_levels_print_what_they_printed() {
     let mut all = 0xCBF2_9CE4_8422_2325;
     for seed in 1..=3 {
         for index in 1..=60 {
             let bytes = generate::trace(seed, index).bytes;
-            let (listed, explained) = (listed_before(&bytes), explained_before(&bytes));
+            let (listed, explained) = (without_sums(&listed_before(&bytes)), without_sums(&explained_before(&bytes)));
             all = [listed.as_bytes(), explained.as_bytes()].iter().fold(all, |d, part| digest(d, part));
         }
     }
@@ -58,7 +69,7 @@ fn traces_without_levels_print_what_they_printed() {
 /// with far ones, and in the last second none.
 #[test]
 fn k3_changes_nothing_else() {
-    let mut voided = [0; 4];
+    let mut voided = [0; 5];
     for seed in 1..=3 {
         for index in 1..=60 {
             let bytes = generate::trace(seed, index).bytes;
@@ -68,17 +79,42 @@ fn k3_changes_nothing_else() {
             for (i, (now, before)) in now.lines().zip(before.lines()).enumerate() {
                 let (now, before): (Vec<&str>, Vec<&str>) = (now.split(' ').collect(), before.split(' ').collect());
                 assert_eq!(now.len(), before.len());
-                // S, the number, frames and heads, then the section's four.
+                // S, the number, frames and heads, then the section's five.
                 let changed: Vec<usize> = (0..now.len()).filter(|at| now[*at] != before[*at]).collect();
                 for at in &changed {
-                    assert!(before[0] == "S" && (13..17).contains(at) && now[*at] == "0" && i + 1 < last, "{before:?}, {now:?}");
+                    assert!(before[0] == "S" && (13..18).contains(at) && now[*at] == "0" && i + 1 < last, "{before:?}, {now:?}");
                     voided[at - 13] += 1;
                 }
                 if changed.contains(&13) || changed.contains(&15) {
-                    assert_eq!(now[13..17], ["0"; 4]);
+                    assert_eq!(now[13..18], ["0"; 5]);
                 }
+                assert_eq!(changed.contains(&14), changed.contains(&17));
             }
         }
     }
     assert!(voided.iter().all(|times| *times > 0), "{voided:?}");
+}
+
+/// The sums of K7 are two more figures of each S line, of which each is at least its far blocks and at most eight times them: as great as them, eight times as
+/// great, and in between.
+#[test]
+fn k7_adds_sums() {
+    let mut met = [[0; 3]; 2];
+    for seed in 1..=3 {
+        for index in 1..=60 {
+            let listed = list(&generate::trace(seed, index).bytes);
+            for line in listed.lines().filter(|line| line.starts_with('S')) {
+                let figures: Vec<u32> = line.split(' ').skip(1).map(|figure| figure.parse().unwrap()).collect();
+                assert_eq!(figures.len(), 22);
+                for (layer, five) in figures[12..].chunks(5).enumerate() {
+                    let (far, sum) = (five[1], five[4]);
+                    assert!(far <= sum && sum <= 8 * far, "{line}");
+                    if far > 0 {
+                        met[layer][usize::from(sum > far) + usize::from(sum == 8 * far)] += 1;
+                    }
+                }
+            }
+        }
+    }
+    assert!(met.iter().flatten().all(|times| *times > 0), "{met:?}");
 }

@@ -56,7 +56,8 @@ fn a_mark_is_told_with_the_next_frame() {
     trace.mark();
     send(&mut trace, 5..7, |_, _| {});
     let text = explain(&trace.0);
-    let second = |number: u32, frames: u32| format!("S {number} {frames} {frames} 0 0 0 0 0 0 0 0 0 {frames} 0 0 0 0 0 0 0\n");
+    let second =
+        |number: u32, frames: u32| format!("S {number} {frames} {frames} 0 0 0 0 0 0 0 0 0 {frames} 0 0 0 0 0 0 0 0 0\n");
     // The second mark reports second 1; second 2 is printed at the end.
     let told = format!("{}F 3 1 6 +SM.dDEG +SM.aTSD +SM.cDEG\n{}E 2 7\n", second(1, 3), second(2, 2));
     assert_eq!(text, format!("F 1 2 2 +IF\nF 1 3 3 +IM\n{told}"));
@@ -79,14 +80,14 @@ fn a_second_is_told_at_the_next_mark() {
     send(&mut trace, 8..13, |_, sent| sent.bdi = [true, false]);
     trace.frame(&Sent::good(13).overhead(), 4, 0, 0);
     let second = |number: u32, frames: u32, section: &str| {
-        format!("S {number} {frames} {frames} 0 0 0 0 0 0 0 0 0 {section} {frames} {frames} 0 0\n")
+        format!("S {number} {frames} {frames} 0 0 0 0 0 0 0 0 0 {section} {frames} {frames} 0 0 {frames}\n")
     };
     // Second 1 after second 2's frames, second 2 at mark 3, second 3 where the scan ends, before R.
     let told = format!(
         "F 2 5 8 +SM.dIAE +SM.aBIAE\n{}{}F 4 1 9 +PM.dDEG +PM.aTSD +PM.cDEG\nF 4 5 13 +SM.dBDI -SM.dIAE -SM.aBIAE +SM.cBDI\n{}",
-        second(1, 3, "0 0 0 0"),
-        second(2, 5, "0 0 0 0"),
-        second(3, 0, "0 0 0 0")
+        second(1, 3, "0 0 0 0 0"),
+        second(2, 5, "0 0 0 0 0"),
+        second(3, 0, "0 0 0 0 0")
     );
     assert_eq!(explain(&trace.0), format!("F 1 2 2 +IF\nF 1 3 3 +IM\n{told}R 2 1018\nE 3 13\n"));
 }

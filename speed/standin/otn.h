@@ -4,9 +4,9 @@
 #include <stddef.h>
 #include <stdint.h>
 
-#define OTN_SUPERVISOR_BYTES 2328
-#define OTN_RECORD_BYTES 176
-#define OTN_SUMMARY_BYTES 168
+#define OTN_SUPERVISOR_BYTES 2392
+#define OTN_RECORD_BYTES 208
+#define OTN_SUMMARY_BYTES 184
 
 uint64_t otn_fresh(uint8_t *sup, size_t sup_len, uint8_t k, uint32_t sm_thr, uint8_t sm_degm, uint32_t pm_thr, uint8_t pm_degm,
                    uint8_t sm_mode, uint8_t pm_mode, uint8_t sm_dis, uint8_t pm_dis, const uint8_t *sm_names,

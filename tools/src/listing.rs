@@ -8,19 +8,42 @@ use crate::program::{commas, decimal, plural, quoted};
 use std::collections::BTreeSet;
 use std::ops::RangeInclusive;
 
-/// Where the numbers of a span stand: the heads; then groups of four, the section's, the path's, and those of the provisioned levels.
+/// Where the numbers of a span stand: the heads; then groups, the section's, the path's, and those of the provisioned levels.
 pub(crate) const HEAD: usize = 2;
-pub(crate) const GROUPS: usize = 12;
+const GROUPS: usize = 12;
+
+/// The figures of a group; far violations are the sum of the numbers that the far end reports.
+const FIGURES: [&str; 5] = ["near blocks", "far blocks", "near DS", "far DS", "far violations"];
+const GROUP: usize = FIGURES.len();
+
+/// Those of them that have a row of bars, and where the defect seconds under it stand, if it has any.
+const BARS: [(usize, Option<usize>); 3] = [(0, Some(2)), (1, Some(3)), (4, None)];
 
 /// Section and path have a group in every S line.
 pub(crate) const ALWAYS: usize = 2;
+
+/// The numbers of an S line without tandem levels, and with all six.
+const LEAST: usize = GROUPS + ALWAYS * GROUP;
+const MOST: usize = LEAST + 6 * GROUP;
+
+/// The group of a row of bars after that of failed frames, and what of it the row shows.
+fn of_group(row: usize) -> (usize, (usize, Option<usize>)) {
+    ((row - 1) / BARS.len(), BARS[(row - 1) % BARS.len()])
+}
+
+/// Where in a span such a row has its number, and its defect seconds if it has any.
+pub(crate) fn row_at(row: usize) -> (usize, Option<usize>) {
+    let (group, (bar, ds)) = of_group(row);
+    let at = |figure| GROUPS + GROUP * group + figure;
+    (at(bar), ds.map(at))
+}
 
 /// The most frames of a second.
 const FULL: u64 = 400_000;
 
 /// The numbers of a second, as its S line has them, with zeros where it has no more groups. Those of a quarter-hour and of a day stand in
 /// the same places: its own number is the first, and DS is the number of seconds that have it.
-pub(crate) type Span = [u64; 44];
+pub(crate) type Span = [u64; MOST];
 
 /// What a line tells of.
 #[derive(Clone, Copy, Debug, Default, PartialEq)]
@@ -71,8 +94,8 @@ pub(crate) struct Told {
     total: u64,
 }
 
-/// The 21 numbers of a Q or D line after its own: first second, length, frames, heads, section and path.
-type Sums = [u64; 21];
+/// The numbers of a Q or D line after its own: first second, length, frames, heads, section and path.
+type Sums = [u64; 1 + LEAST];
 
 fn sum_name(at: usize) -> String {
     match at {
@@ -80,19 +103,15 @@ fn sum_name(at: usize) -> String {
         1 => "length".into(),
         2 => "frames".into(),
         3..=12 => format!("head {}", at - 3),
-        _ => format!(
-            "{} {}",
-            ["section", "path"][(at - 13) / 4],
-            ["near blocks", "far blocks", "near DS", "far DS"][(at - 13) % 4]
-        ),
+        _ => format!("{} {}", ["section", "path"][(at - 13) / GROUP], FIGURES[(at - 13) % GROUP]),
     }
 }
 
 /// The same as a span of this number.
 fn span_of(number: u64, sums: &Sums) -> Span {
-    let mut span = [0; 44];
+    let mut span = [0; MOST];
     span[0] = number;
-    span[1..20].copy_from_slice(&sums[2..]);
+    span[1..LEAST].copy_from_slice(&sums[2..]);
     span
 }
 
@@ -244,11 +263,11 @@ impl Listing {
             }
             "Q" => {
                 self.unit = Some(Unit::Quarter);
-                let [number, sums @ ..] = numbers::<22>(words)?;
+                let [number, sums @ ..] = numbers::<{ 2 + LEAST }>(words)?;
                 self.quarter(number, &sums)
             }
             "D" => {
-                let [number, sums @ ..] = numbers::<22>(words)?;
+                let [number, sums @ ..] = numbers::<{ 2 + LEAST }>(words)?;
                 self.end_day(number, &sums)
             }
             "R" => self.refuse(numbers(words)?),
@@ -264,18 +283,18 @@ impl Listing {
         (1..=19).contains(&number).then_some(()).ok_or(format!("refusal {number}; expected 1 to 19"))
     }
 
-    /// An S line has 20 numbers and four for each provisioned level, and all S lines have as many.
+    /// An S line has a group for each provisioned level, and all S lines have as many.
     fn count_groups(&mut self, numbers: usize) -> Result<(), String> {
-        let first = self.spans.is_empty();
-        let good = if first { (20..=44).contains(&numbers) && numbers % 4 == 0 } else { numbers == GROUPS + 4 * self.groups };
+        let (first, before) = (self.spans.is_empty(), GROUPS + GROUP * self.groups);
+        let good = if first { (LEAST..=MOST).step_by(GROUP).any(|n| n == numbers) } else { numbers == before };
         let expected = match first {
-            true => "20, and 4 more for each tandem level".to_string(),
-            false => format!("{}, as in the line before", GROUPS + 4 * self.groups),
+            true => format!("{LEAST}, and {GROUP} more for each tandem level"),
+            false => format!("{before}, as in the line before"),
         };
         if !good {
             return Err(format!("{}; expected {expected}", plural(numbers as u64, "number")));
         }
-        self.groups = (numbers - GROUPS) / 4;
+        self.groups = (numbers - GROUPS) / GROUP;
         Ok(())
     }
 
@@ -291,16 +310,19 @@ impl Listing {
         }
     }
 
-    /// How many rows of bars there are: failed frames, and near and far blocks of each group.
+    /// How many rows of bars there are: failed frames, and those of each group.
     pub(crate) fn rows(&self) -> usize {
-        1 + 2 * self.groups
+        1 + BARS.len() * self.groups
     }
 
     /// What stands beside a row.
     pub(crate) fn row(&self, row: usize) -> String {
         match row {
             0 => "failed frames".into(),
-            _ => format!("{} {} blocks", self.group((row - 1) / 2), ["near", "far"][(row - 1) % 2]),
+            _ => {
+                let (group, (bar, _)) = of_group(row);
+                format!("{} {}", self.group(group), FIGURES[bar])
+            }
         }
     }
 
@@ -388,7 +410,7 @@ impl Listing {
         Ok(())
     }
 
-    /// The frames of so many seconds, those under the ten heads, and the blocks and DS of each group.
+    /// The frames of so many seconds, those under the ten heads, and the blocks, DS and far violations of each group.
     fn figures(&self, s: &Span, seconds: u64) -> Result<(), String> {
         let filed = s[HEAD..HEAD + 10].iter().fold(0u64, |sum, n| sum.saturating_add(*n));
         let whose = self.unit().name();
@@ -398,18 +420,21 @@ impl Listing {
         if filed != s[1] {
             return Err(format!("{} under the ten heads; expected {}, the {whose}'s", plural(filed, "frame"), s[1]));
         }
-        for near in (0..self.groups).map(|group| GROUPS + 4 * group) {
-            if s[near].max(s[near + 1]) > s[1] {
-                let blocks = plural(s[near].max(s[near + 1]), "block");
-                return Err(format!("{blocks}; expected at most {}, the {whose}'s frames", s[1]));
+        for group in s[GROUPS..].chunks(GROUP).take(self.groups) {
+            let (blocks, far, ds, violations) = (group[0].max(group[1]), group[1], group[2].max(group[3]), group[4]);
+            if blocks > s[1] {
+                return Err(format!("{}; expected at most {}, the {whose}'s frames", plural(blocks, "block"), s[1]));
             }
-            let ds = s[near + 2].max(s[near + 3]);
             match self.unit() {
                 Unit::Second if ds > 1 => return Err(format!("{ds} for a defect second; expected 0 or 1")),
                 _ if ds > seconds => {
                     return Err(format!("{}; expected at most {seconds}, the {whose}'s", plural(ds, "defect second")))
                 }
                 _ => (),
+            }
+            if !(far..=8 * far).contains(&violations) {
+                let violations = plural(violations, "far violation");
+                return Err(format!("{violations}; expected 1 to 8 for each of {}", plural(far, "far block")));
             }
         }
         Ok(())

@@ -1,13 +1,13 @@
 //! Timeline: a listing, an explanation, or quarter-hours and days, to one SVG page, time from left to right.
 //!
 //! From the top: a band of the worst head, with days a second one of theirs, a lane for each of the nine failed heads, then failed frames and
-//! the near and far blocks of section and path, and of each provisioned tandem level, as bars, with defect seconds as a strip under them.
-//! Where there are more seconds than columns of pixels, several share a column, and the worst of them is shown, so that no failed second
-//! disappears; the shade tells how many of them fail. Of quarter-hours it tells how much of them: how many frames are under a head, how many
-//! seconds are defect seconds. What an explanation tells of fault causes is told with the figures of a column.
+//! the near and far blocks and the far violations of section and path, and of each provisioned tandem level, as bars, with defect seconds as
+//! a strip under the blocks. Where there are more seconds than columns of pixels, several share a column, and the worst of them is shown, so
+//! that no failed second disappears; the shade tells how many of them fail. Of quarter-hours it tells how much of them: how many frames are
+//! under a head, how many seconds are defect seconds. What an explanation tells of fault causes is told with the figures of a column.
 
 pub use crate::listing::read;
-use crate::listing::{Causes, Listing, Span, Unit, ALWAYS, GROUPS, HEAD};
+use crate::listing::{row_at, Causes, Listing, Span, Unit, ALWAYS, HEAD};
 use crate::program::{commas, cut, plural, printable};
 use std::fmt::Write;
 use std::ops::RangeInclusive;
@@ -100,21 +100,19 @@ const REFUSALS: [&str; 19] = [
 enum Of {
     Failed,
     Head(usize),
-    /// A row of bars, and the strip under it.
+    /// A row of bars, and the strip under it, if it has one.
     Bar(usize),
     Ds(usize),
 }
 
 impl Of {
-    /// The number of frames, blocks or defect seconds.
+    /// The number of frames, blocks, violations or defect seconds.
     fn number(self, s: &Span) -> u64 {
-        let at = |row: usize| GROUPS + 4 * ((row - 1) / 2) + (row - 1) % 2;
         match self {
             Of::Failed | Of::Bar(0) => s[1] - s[HEAD],
             Of::Head(head) => s[HEAD + head],
-            Of::Bar(row) => s[at(row)],
-            Of::Ds(0) => 0,
-            Of::Ds(row) => s[at(row) + 2],
+            Of::Bar(row) => s[row_at(row).0],
+            Of::Ds(row) => row_at(row).1.map_or(0, |at| s[at]),
         }
     }
     fn stands(self, s: &Span) -> bool {
@@ -593,7 +591,7 @@ impl Page<'_> {
                 }
             }
         }
-        if row > 0 {
+        if row > 0 && row_at(row).1.is_some() {
             self.text(16, base + 11, "", &format!("DS in {}", plural(self.all().sum(Of::Ds(row)), "second")));
             self.text(LEFT - 6, base + 12, "scale", "DS");
             self.rect(LEFT, base + 4, self.right() - LEFT, STRIP, "strip");
@@ -656,7 +654,7 @@ impl Page<'_> {
             format!("clear: no frame failed. A column without frames is blank. Rest the pointer on a column{or_day} to read its figures."),
             "Worst head: judged by its number. 1 is the worst, then 2 and so on to 9; clear comes last.".into(),
             format!("Lanes 1 to 9: each head that has a frame in the column. Beside a lane: how many {name}s have one. A mark that stands alone is at least 2 pixels wide."),
-            format!("Bars: the highest of the {name}s in the column, by powers of ten; beside them the sum of all. Failed frames: all but clear."),
+            format!("Bars: the highest of the {name}s in the column, by powers of ten; beside them the sum of all. Failed frames: all but clear. Far violations: the numbers 1 to 8 of BEI, added up."),
             format!("DS: {ds}, near or far as the bars above it."),
         ];
         let mut notes: Vec<(&str, String)> = always.map(|note| ("", note)).into();

@@ -16,5 +16,5 @@ fn examples_have_their_explanations() {
             met += 1;
         }
     }
-    assert_eq!(met, 8);
+    assert_eq!(met, 9);
 }

@@ -73,7 +73,7 @@ fn examples_have_their_listings() {
             met += 1;
         }
     }
-    assert_eq!(met, 9);
+    assert_eq!(met, 10);
 }
 
 #[test]
@@ -403,7 +403,10 @@ fn refused(args: &[&str], input: &[u8]) -> (String, Option<i32>) {
 #[test]
 fn the_program() {
     let (out, told, status) = program(&[], b"good 3\nmark 3\n");
-    assert_eq!((list(&out).as_str(), told.as_str(), status), ("S 1 3 3 0 0 0 0 0 0 0 0 0 0 0 0 0 0 0 0 0\nE 1 3\n", "", Some(0)));
+    assert_eq!(
+        (list(&out).as_str(), told.as_str(), status),
+        ("S 1 3 3 0 0 0 0 0 0 0 0 0 0 0 0 0 0 0 0 0 0 0\nE 1 3\n", "", Some(0))
+    );
     let file = concat!(env!("CARGO_MANIFEST_DIR"), "/../examples/scenarios/overlap.txt");
     assert_eq!(program(&[file], b"").0, trace(&std::fs::read_to_string(file).unwrap()));
 }

@@ -8,8 +8,8 @@ use tools::timeline::{page, read};
 
 const LEFT: usize = 270;
 
-/// An S line of so many frames: those under one failed head, and the four values of each layer.
-fn second(number: usize, frames: u64, (head, failed): (usize, u64), layers: [u64; 8]) -> String {
+/// An S line of so many frames: those under one failed head, and the five values of each layer.
+fn second(number: usize, frames: u64, (head, failed): (usize, u64), layers: [u64; 10]) -> String {
     let mut heads = [0; 10];
     heads[0] = frames - failed;
     heads[head] += failed;
@@ -22,8 +22,8 @@ fn listing(seconds: usize, failed: &[(usize, usize)]) -> String {
     let mut text = String::new();
     for number in 1..=seconds {
         text += &match failed.iter().find(|(at, _)| *at == number) {
-            Some((_, head)) => second(number, 10, (*head, 1), [0, 0, u64::from(*head < 6), 0, 0, 0, 1, 0]),
-            None => second(number, 10, (0, 0), [0; 8]),
+            Some((_, head)) => second(number, 10, (*head, 1), [0, 0, u64::from(*head < 6), 0, 0, 0, 0, 1, 0, 0]),
+            None => second(number, 10, (0, 0), [0; 10]),
         };
     }
     format!("{text}E {seconds} {}\n", 10 * seconds)
@@ -137,6 +137,8 @@ fn a_minute_has_every_head_and_every_defect_second() {
         assert!(svg.contains(&format!(">{words}</text>")), "{words}");
     }
     assert_eq!(svg.matches("class=\"pointer\"").count(), 60);
+    // With a BEI of 2 in its frames a far block has two far violations.
+    assert!(figures(&svg, "second 32\n").ends_with(&["path far blocks: 180", "path far violations: 360"]));
     assert!(
         svg.contains("<title>second 50\n0 clear: 999 frames\n1 line signal fail (TSF-P): 1 frame\nsection near blocks: 10, DS\n")
     );
@@ -202,7 +204,7 @@ fn the_shade_tells_how_many_seconds_of_a_column_fail() {
     let begins = ["seconds 61 to 70: 7 of 10 with failed frames", "0 clear: 93 frames in 10 of 10 seconds"];
     assert_eq!(figures(&svg, "seconds 61 to 70:")[..2], begins);
     assert_eq!(figures(&svg, "seconds 61 to 70:")[2], "5 section trace mismatch: 7 frames in 7 of 10 seconds");
-    assert_eq!(figures(&svg, "seconds 61 to 70:")[5], "path near blocks: 0, DS in 7 of 10 seconds");
+    assert_eq!(figures(&svg, "seconds 61 to 70:")[6], "path near blocks: 0, DS in 7 of 10 seconds");
     assert_eq!(figures(&svg, "seconds 101 to 110:")[0], "seconds 101 to 110: 0 of 10 with failed frames");
     assert!(svg.contains(">Shade: how many seconds of the column have it, in the band how many fail: "));
     // The full colour of head 5 is #117733; of the palest 40 hundredths are left.
@@ -241,33 +243,34 @@ fn neighbours_cover_no_other() {
 
 #[test]
 fn bars_show_the_highest_of_a_column_by_powers_of_ten() {
-    let mut text: String = (1..=1_798).map(|number| second(number, 1_000, (0, 0), [0; 8])).collect();
-    text += &second(1_799, 1_000, (0, 0), [5, 0, 0, 0, 0, 0, 0, 0]);
-    text += &second(1_800, 1_000, (0, 0), [1_000, 1, 0, 0, 0, 0, 0, 0]);
+    let mut text: String = (1..=1_798).map(|number| second(number, 1_000, (0, 0), [0; 10])).collect();
+    text += &second(1_799, 1_000, (0, 0), [5, 0, 0, 0, 0, 0, 0, 0, 0, 0]);
+    text += &second(1_800, 1_000, (0, 0), [1_000, 1, 0, 0, 1, 0, 20, 0, 0, 100]);
     let svg = drawn(&format!("{text}E 1800 1800000\n"));
     // Four steps of 14 pixels: 1, 10, 100, 1,000.
     let heights = |class: &str| rects(&svg, class).iter().map(|r| (r[0], r[3])).filter(|r| r.1 > 3).collect::<Vec<_>>();
-    assert_eq!((heights("bar"), heights("bar s2")), (vec![(LEFT + 899, 56)], vec![(LEFT + 899, 14)]));
+    assert_eq!(heights("bar"), [(LEFT + 899, 56)]);
+    assert_eq!(heights("bar s2"), [14, 14, 32, 42].map(|height| (LEFT + 899, height)));
     assert!(svg.contains(">1,005</text>"));
 }
 
 #[test]
 fn the_fullest_seconds() {
-    let full = [400_000, 400_000, 1, 1, 400_000, 400_000, 1, 1];
+    let full = [400_000, 400_000, 1, 1, 3_200_000, 400_000, 400_000, 1, 1, 3_200_000];
     let svg = drawn(&format!("{}{}E 2 800000\n", second(1, 400_000, (9, 400_000), full), second(2, 400_000, (0, 0), full)));
     assert!(rects(&svg, "bar").iter().all(|r| r[3] <= 56));
-    assert_eq!((rects(&svg, "bar").len(), rects(&svg, "ds").len()), (9, 4));
+    assert_eq!((rects(&svg, "bar").len(), rects(&svg, "ds").len()), (13, 4));
 }
 
 #[test]
 fn seconds_without_frames_are_blank() {
-    let svg = drawn("S 1 0 0 0 0 0 0 0 0 0 0 0 0 0 0 0 0 0 0 0\nS 2 3 3 0 0 0 0 0 0 0 0 0 0 0 0 0 0 0 0 0\nE 2 3\n");
+    let svg = drawn(&format!("{}{}E 2 3\n", second(1, 0, (0, 0), [0; 10]), second(2, 3, (0, 0), [0; 10])));
     assert_eq!(head(&svg, 0)[0], [(LEFT + 60, 60)]);
 }
 
 #[test]
 fn a_refused_listing_shows_where_the_record_ends() {
-    let svg = drawn("S 1 2 0 2 0 0 0 0 0 0 0 0 0 0 1 0 0 0 1 0\nR 15 1234\nE 1 7\n");
+    let svg = drawn("S 1 2 0 2 0 0 0 0 0 0 0 0 0 0 1 0 0 0 0 1 0 0\nR 15 1234\nE 1 7\n");
     assert_eq!(rects(&svg, "end").iter().map(|r| r[0]).collect::<Vec<_>>(), [LEFT + 60]);
     for words in [
         "the record ends here",
@@ -309,21 +312,24 @@ fn labels_of_the_axis_keep_apart() {
 
 #[test]
 fn mistakes_tell_the_line_and_what_was_expected() {
-    let good = "S 1 2 0 2 0 0 0 0 0 0 0 0 0 0 1 0 0 0 1 0\n";
+    let good = "S 1 2 0 2 0 0 0 0 0 0 0 0 0 0 1 0 0 0 0 1 0 0\n";
     let told = [
         ("", "the listing ends; expected E"),
         ("X 1", "\"X\" begins the line; expected S, F, R or E"),
         ("\n", "\"\" begins the line; expected S, F, R or E"),
         ("\u{1}\u{fffd}q", "\"..q\" begins the line; expected S, F, R or E"),
-        ("S 2 0 0", "3 numbers; expected 20, as in the line before"),
-        ("S 3 0 0 0 0 0 0 0 0 0 0 0 0 0 0 0 0 0 0 0", "second 3; expected 2"),
-        ("S 2 x 0 0 0 0 0 0 0 0 0 0 0 0 0 0 0 0 0 0", "\"x\" is not a number; expected digits"),
-        ("S 2  0 0 0 0 0 0 0 0 0 0 0 0 0 0 0 0 0 0", "\"\" is not a number; expected digits"),
-        ("S 2 +1 1 0 0 0 0 0 0 0 0 0 0 0 0 0 0 0 0 0", "\"+1\" is not a number; expected digits"),
-        ("S 2 400001 0 0 0 0 0 0 0 0 0 0 0 0 0 0 0 0 0 0", "400,001 frames; expected at most 400,000"),
-        ("S 2 9 4 4 0 0 0 0 0 0 0 0 0 0 0 0 0 0 0 0", "8 frames under the ten heads; expected 9, the second's"),
-        ("S 2 1 1 0 0 0 0 0 0 0 0 0 0 2 0 0 0 0 0 0", "2 blocks; expected at most 1, the second's frames"),
-        ("S 2 0 0 0 0 0 0 0 0 0 0 0 0 0 0 0 0 0 0 2", "2 for a defect second; expected 0 or 1"),
+        ("S 2 0 0", "3 numbers; expected 22, as in the line before"),
+        ("S 3 0 0 0 0 0 0 0 0 0 0 0 0 0 0 0 0 0 0 0 0 0", "second 3; expected 2"),
+        ("S 2 x 0 0 0 0 0 0 0 0 0 0 0 0 0 0 0 0 0 0 0 0", "\"x\" is not a number; expected digits"),
+        ("S 2  0 0 0 0 0 0 0 0 0 0 0 0 0 0 0 0 0 0 0 0", "\"\" is not a number; expected digits"),
+        ("S 2 +1 1 0 0 0 0 0 0 0 0 0 0 0 0 0 0 0 0 0 0 0", "\"+1\" is not a number; expected digits"),
+        ("S 2 400001 0 0 0 0 0 0 0 0 0 0 0 0 0 0 0 0 0 0 0 0", "400,001 frames; expected at most 400,000"),
+        ("S 2 9 4 4 0 0 0 0 0 0 0 0 0 0 0 0 0 0 0 0 0 0", "8 frames under the ten heads; expected 9, the second's"),
+        ("S 2 1 1 0 0 0 0 0 0 0 0 0 0 2 0 0 2 0 0 0 0 0", "2 blocks; expected at most 1, the second's frames"),
+        ("S 2 0 0 0 0 0 0 0 0 0 0 0 0 0 0 0 0 0 0 0 2 0", "2 for a defect second; expected 0 or 1"),
+        ("S 2 3 3 0 0 0 0 0 0 0 0 0 0 2 0 0 1 0 0 0 0 0", "1 far violation; expected 1 to 8 for each of 2 far blocks"),
+        ("S 2 3 3 0 0 0 0 0 0 0 0 0 0 2 0 0 2 0 1 0 0 9", "9 far violations; expected 1 to 8 for each of 1 far block"),
+        ("S 2 3 3 0 0 0 0 0 0 0 0 0 3 0 0 0 1 0 0 0 0 0", "1 far violation; expected 1 to 8 for each of 0 far blocks"),
         ("F 2 1", "2 numbers; expected 3"),
         ("F 1 2 2 +IF", "second 1; expected 3"),
         ("F 2 1 3 +IF", "second 2; expected 3"),
@@ -349,7 +355,7 @@ fn mistakes_tell_the_line_and_what_was_expected() {
     assert_eq!(explained("F 3 3 12 -IF"), "line 3: frame 3; expected 4 to 400,000");
     assert_eq!(explained("F 3 4 14 -IF"), "line 3: frame 14 of the trace; expected 13");
     assert_eq!(explained("F 4 1 15 -IF"), "line 3: second 4; expected 3");
-    let zeros = "0 0 0 0 0 0 0 0 0 0 0 0 0 0 0 0 0";
+    let zeros = "0 0 0 0 0 0 0 0 0 0 0 0 0 0 0 0 0 0 0";
     let wrong = "8 frames; expected 7, by the F lines of the next second";
     assert_eq!(explained(&format!("S 2 8 8 {zeros}")), format!("line 3: {wrong}"));
     let both = format!("S 2 7 7 {zeros}\nS 3 2 2 {zeros}");
@@ -371,7 +377,8 @@ fn mistakes_tell_the_line_and_what_was_expected() {
 #[test]
 fn an_explanation_has_the_picture_of_its_listing() {
     let note = "With the figures of a column: the frames in which a fault cause begins (+) or ends (-).";
-    for name in ["blocks-while-failed", "far-end", "minute", "mistyped-names", "one-cut-once", "overlap", "swapped-fibres"] {
+    let files = std::fs::read_dir(EXAMPLES).unwrap().map(|entry| entry.unwrap().file_name().into_string().unwrap());
+    for name in files.filter_map(|file| Some(file.strip_suffix(".explained")?.to_string())) {
         let explained = drawn(&example(&format!("{name}.explained")));
         assert!(explained.contains(note), "{name}");
         // The note makes the page 17 pixels higher.
@@ -384,8 +391,8 @@ fn an_explanation_has_the_picture_of_its_listing() {
     }
     let figures = |begin: &str| figures(&drawn(&example("one-cut-once.explained")), begin).join("; ");
     assert!(figures("second 1\n")
-        .ends_with("; path far blocks: 0; frame 5,066: +cLOF +SM.cSSF +PM.cSSF; frame 5,863: -cLOF -SM.cSSF -PM.cSSF"));
-    assert!(figures("second 2\n").ends_with("; path far blocks: 0"));
+        .ends_with("; path far violations: 0; frame 5,066: +cLOF +SM.cSSF +PM.cSSF; frame 5,863: -cLOF -SM.cSSF -PM.cSSF"));
+    assert!(figures("second 2\n").ends_with("; path far violations: 0"));
 }
 
 /// So many seconds of nine frames, with an F line of the changes in frame 5 of each; the S line of a second stands behind the F line of the next.
@@ -394,42 +401,46 @@ fn explanation(seconds: usize, changes: &str) -> String {
     for number in 1..=seconds {
         text += &format!("F {number} 5 {} {changes}\n", 9 * (number - 1) + 5);
         if number > 1 {
-            text += &second(number - 1, 9, (0, 0), [0; 8]);
+            text += &second(number - 1, 9, (0, 0), [0; 10]);
         }
     }
-    format!("{text}{}E {seconds} {}\n", second(seconds, 9, (0, 0), [0; 8]), 9 * seconds)
+    format!("{text}{}E {seconds} {}\n", second(seconds, 9, (0, 0), [0; 10]), 9 * seconds)
 }
 
 /// Two seconds with the groups of two levels, and an F line of the changes in the first.
 fn levels(changes: &str) -> String {
     let told = if changes.is_empty() { String::new() } else { format!("F 1 5 5 {changes}\n") };
-    let zeros = "0 0 0 0 0 0 0 0 0 0 0 0 0 0 0 0 0";
-    format!("{told}S 1 9 9 {zeros} 3 2 1 0 0 0 0 1\nS 2 9 9 {zeros} 0 0 0 0 1 1 0 0\nE 2 18\n")
+    let zeros = "0 0 0 0 0 0 0 0 0 0 0 0 0 0 0 0 0 0 0";
+    format!("{told}S 1 9 9 {zeros} 3 2 1 0 16 0 0 0 1 0\nS 2 9 9 {zeros} 0 0 0 0 0 1 1 0 0 1\nE 2 18\n")
 }
 
 #[test]
 fn each_provisioned_level_has_its_group() {
-    let figures_of = |listing: &str| figures(&drawn(listing), "second 1\n")[6..].join("; ");
-    let plain = "level 1 of 2 near blocks: 3, DS; level 1 of 2 far blocks: 2; \
-                 level 2 of 2 near blocks: 0; level 2 of 2 far blocks: 0, DS";
+    let figures_of = |listing: &str| figures(&drawn(listing), "second 1\n")[8..].join("; ");
+    let plain = "level 1 of 2 near blocks: 3, DS; level 1 of 2 far blocks: 2; level 1 of 2 far violations: 16; \
+                 level 2 of 2 near blocks: 0; level 2 of 2 far blocks: 0, DS; level 2 of 2 far violations: 0";
     assert_eq!(figures_of(&levels("")), plain);
     // A listing does not number the levels; an explanation that names both does, one that names one does not.
     assert_eq!(figures_of(&levels("+TCM3.SSF")), plain);
     let named = plain.replace("level 1 of 2", "TCM2").replace("level 2 of 2", "TCM6");
     assert_eq!(figures_of(&levels("+TCM6.SSF -TCM2.trace")), named);
     assert_eq!(figures_of(&levels("+TCM2.cLTC +TCM6.dDEG TCM2.trace=\"x\"")), format!("{named}; frame 5: +TCM2.cLTC"));
-    // Two rows of bars more for each level, and what is under them moves down.
+    // Three rows of bars more for each level, and what is under them moves down.
     let (none, two) = (drawn(&listing(2, &[])), drawn(&levels("")));
     let high = |svg: &str| svg.split("height=\"").nth(1).unwrap().split('"').next().unwrap().parse::<usize>().unwrap();
-    assert_eq!(high(&two), high(&none) + 4 * 86 + 17);
+    assert_eq!(high(&two), high(&none) + 6 * 86 + 17);
     assert!(two.contains("Tandem levels: in the order of their numbers") && !none.contains("Tandem levels"));
     let mistake = |text: &str| read(text).unwrap_err();
-    assert_eq!(mistake("S 1 0 0"), "line 1: 3 numbers; expected 20, and 4 more for each tandem level");
+    assert_eq!(mistake("S 1 0 0"), "line 1: 3 numbers; expected 22, and 5 more for each tandem level");
     assert_eq!(
-        mistake(&levels("").replace("S 2 9 9 0 0 0 0", "S 2 9 9")),
-        "line 2: 24 numbers; expected 28, as in the line before"
+        mistake(&levels("").replace("S 2 9 9 0 0 0 0 0", "S 2 9 9")),
+        "line 2: 27 numbers; expected 32, as in the line before"
     );
     assert_eq!(mistake(&levels("").replace(" 3 2 1 0", " 3 2 2 0")), "line 1: 2 for a defect second; expected 0 or 1");
+    assert_eq!(
+        mistake(&levels("").replace(" 1 0 16", " 1 0 17")),
+        "line 1: 17 far violations; expected 1 to 8 for each of 2 far blocks"
+    );
     assert_eq!(
         mistake(&levels("+TCM3.trace=x")),
         "line 1: \"+TCM3.trace=x\" is not a change; expected +NAME, -NAME, head= or a trace"
@@ -438,20 +449,20 @@ fn each_provisioned_level_has_its_group() {
 
 #[test]
 fn fault_causes_are_told_with_the_figures() {
-    let told = |svg: &str, begin: &str| figures(svg, begin)[6..].join("; ");
+    let told = |svg: &str, begin: &str| figures(svg, begin)[8..].join("; ");
     // Names of other kinds, the head and the traces are no causes, whatever is in a trace.
     let svg = drawn(&explanation(2, "+dLOF +SM.aBDI -cLOM +PM.cTIM head=3 SM.trace=\"a +cLOF <b> & \" -PM.trace"));
     assert_eq!(told(&svg, "second 2\n"), "frame 5: -cLOM +PM.cTIM");
     assert_eq!(told(&drawn(&explanation(2, "+cLOF -SM.trace")), "second 2\n"), "frame 5: +cLOF");
-    assert_eq!(figures(&drawn(&explanation(2, "head=3")), "second 2\n").len(), 6);
-    assert_eq!(figures(&drawn(&explanation(2, "PM.trace=\"x y\"")), "second 2\n").len(), 6);
+    assert_eq!(figures(&drawn(&explanation(2, "head=3")), "second 2\n").len(), 8);
+    assert_eq!(figures(&drawn(&explanation(2, "PM.trace=\"x y\"")), "second 2\n").len(), 8);
     // Of seconds that share a column each has its number, and six frames are told.
     assert_eq!(
         told(&drawn(&explanation(1_800, "+cLOF")), "seconds 3 to 4:"),
         "second 3, frame 5: +cLOF; second 4, frame 5: +cLOF"
     );
     let svg = drawn(&explanation(7_200, "+cLOF"));
-    assert_eq!(figures(&svg, "seconds 1 to 8:").len(), 13);
+    assert_eq!(figures(&svg, "seconds 1 to 8:").len(), 15);
     assert_eq!(*figures(&svg, "seconds 1 to 8:").last().unwrap(), "and 2 frames more with fault causes");
 }
 
@@ -494,19 +505,19 @@ fn the_end_of_the_record_is_where_the_last_second_is() {
 /// make near DS, under heads 1 to 5 of section and path, otherwise of the path.
 fn quarters(seconds: u64, failed: &[(RangeInclusive<u64>, usize, u64)]) -> String {
     let mut text = String::new();
-    let mut open = [('Q', 900, [0; 21]), ('D', 86_400, [0; 21])];
+    let mut open = [('Q', 900, [0; 23]), ('D', 86_400, [0; 23])];
     for number in 1..=seconds {
-        let mut second = [0; 21];
+        let mut second = [0; 23];
         second[..4].copy_from_slice(&[number, 1, 20, 20]);
         for (_, head, frames) in failed.iter().filter(|(at, _, _)| at.contains(&number)) {
             second[3] -= frames;
             second[3 + head] += frames;
             second[15] = u64::from(*head < 6);
-            second[19] = 1;
+            second[20] = 1;
         }
         for (letter, length, sums) in &mut open {
             sums[0] = if sums[1] == 0 { number } else { sums[0] };
-            (1..21).for_each(|i| sums[i] += second[i]);
+            (1..23).for_each(|i| sums[i] += second[i]);
             if sums[1] == *length || number == seconds {
                 text += &summed(*letter, (number - 1) / *length, &std::mem::take(sums));
             }
@@ -515,9 +526,9 @@ fn quarters(seconds: u64, failed: &[(RangeInclusive<u64>, usize, u64)]) -> Strin
     format!("{text}E {seconds} {}\n", 20 * seconds)
 }
 
-/// A Q or D line: the first of its 21 numbers, zeros for the others.
+/// A Q or D line: the first of its 23 numbers, zeros for the others.
 fn summed(letter: char, number: u64, sums: &[u64]) -> String {
-    let sums: Vec<String> = (0..21).map(|i| sums.get(i).unwrap_or(&0).to_string()).collect();
+    let sums: Vec<String> = (0..23).map(|i| sums.get(i).unwrap_or(&0).to_string()).collect();
     format!("{letter} {number} {}\n", sums.join(" "))
 }
 
@@ -565,31 +576,33 @@ fn a_day_of_quarter_hours() {
     assert_eq!(
         figures_of("quarter-hour 5,"),
         "quarter-hour 5, seconds 4,501 to 5,400; 0 clear: 17,800 frames; 3 loss of frame (dLOF): 200 frames; \
-         section near blocks: 0, DS in 10 of 900 seconds; section far blocks: 0; \
-         path near blocks: 0, DS in 10 of 900 seconds; path far blocks: 0"
+         section near blocks: 0, DS in 10 of 900 seconds; section far blocks: 0; section far violations: 0; \
+         path near blocks: 0, DS in 10 of 900 seconds; path far blocks: 0; path far violations: 0"
     );
     assert_eq!(
         figures_of("day 0,"),
         "day 0, seconds 1 to 86,400; 0 clear: 1,709,799 frames; 1 line signal fail (TSF-P): 18,000 frames; \
          3 loss of frame (dLOF): 200 frames; 9 path trace mismatch: 1 frame; \
-         section near blocks: 0, DS in 910 of 86,400 seconds; section far blocks: 0; \
-         path near blocks: 0, DS in 911 of 86,400 seconds; path far blocks: 0"
+         section near blocks: 0, DS in 910 of 86,400 seconds; section far blocks: 0; section far violations: 0; \
+         path near blocks: 0, DS in 911 of 86,400 seconds; path far blocks: 0; path far violations: 0"
     );
     assert_eq!(svg.matches("class=\"pointer\"").count(), 97);
 }
 
 #[test]
 fn quarter_hours_have_their_bars_and_far_figures() {
-    // Near and far of section and path: blocks by powers of ten, and DS in 900, 675, 450 and 1 of 900 seconds.
-    let sums = [1, 900, 360_000_000, 360_000_000, 0, 0, 0, 0, 0, 0, 0, 0, 0, 1, 100, 900, 675, 10_000, 100_000_000, 450, 1];
+    // Near and far of section and path: blocks by powers of ten, DS in 900, 675, 450 and 1 of 900 seconds, and far violations.
+    let layers = [[1, 100, 900, 675, 100], [10_000, 100_000_000, 450, 1, 100_000_000]];
+    let sums = [&[1, 900, 360_000_000, 360_000_000, 0, 0, 0, 0, 0, 0, 0, 0, 0][..], layers.as_flattened()].concat();
     let svg = drawn(&format!("{}{}E 900 360000000\n", summed('Q', 0, &sums), summed('D', 0, &sums)));
     // Nine steps of 6.2 pixels: 1, 10, 100 and so on to 100,000,000.
-    assert_eq!(rects(&svg, "bar").iter().map(|r| r[3]).collect::<Vec<_>>(), [6, 19, 31, 56]);
+    assert_eq!(rects(&svg, "bar").iter().map(|r| r[3]).collect::<Vec<_>>(), [6, 19, 19, 31, 56, 56]);
     assert_eq!(["ds", "ds s3", "ds s2", "ds s1"].map(|class| of_height(&svg, class, 8).len()), [1, 1, 1, 1]);
     assert_eq!(
         figures(&svg, "quarter-hour 0,")[2..].join("; "),
         "section near blocks: 1, DS in 900 of 900 seconds; section far blocks: 100, DS in 675 of 900 seconds; \
-         path near blocks: 10,000, DS in 450 of 900 seconds; path far blocks: 100,000,000, DS in 1 of 900 seconds"
+         section far violations: 100; path near blocks: 10,000, DS in 450 of 900 seconds; \
+         path far blocks: 100,000,000, DS in 1 of 900 seconds; path far violations: 100,000,000"
     );
     // One column: the day is as narrow.
     assert!(!svg.contains(">day 0: ") && of_height(&svg, "h0", 18) == [(LEFT, 59)]);
@@ -704,7 +717,7 @@ fn mistakes_in_quarter_hours() {
         (&first, q(1, &[900, 900]), "first second 900; expected 901".into()),
         (&first, q(1, &[901, 0]), "0 seconds; expected 1 to 900".into()),
         (&first, q(1, &[901, 901]), "901 seconds; expected 1 to 900".into()),
-        (&first, "Q 1 901".into(), "2 numbers; expected 22".into()),
+        (&first, "Q 1 901".into(), "2 numbers; expected 24".into()),
         (&first, q(1, &[901, 2]).replace(" 901 ", " x "), "\"x\" is not a number; expected digits".into()),
         (&first, q(1, &[901, 2, 800_001, 800_001]), "800,001 frames; expected at most 800,000".into()),
         (&first, q(1, &[901, 2, 9, 4, 4]), "8 frames under the ten heads; expected 9, the quarter-hour's".into()),
@@ -715,8 +728,13 @@ fn mistakes_in_quarter_hours() {
         ),
         (
             &first,
-            q(1, &[901, 2, 0, 0, 0, 0, 0, 0, 0, 0, 0, 0, 0, 0, 0, 0, 0, 0, 0, 0, 3]),
+            q(1, &[901, 2, 0, 0, 0, 0, 0, 0, 0, 0, 0, 0, 0, 0, 0, 0, 0, 0, 0, 0, 0, 3]),
             "3 defect seconds; expected at most 2, the quarter-hour's".into(),
+        ),
+        (
+            &first,
+            q(1, &[901, 2, 1, 1, 0, 0, 0, 0, 0, 0, 0, 0, 0, 0, 1, 0, 0, 9]),
+            "9 far violations; expected 1 to 8 for each of 1 far block".into(),
         ),
         (&first, d(1, &[1, 900]), "day 1; expected 0".into()),
         (&first, d(0, &[2, 900]), "first second: 2; expected 1, by the Q lines of the day".into()),
@@ -731,6 +749,11 @@ fn mistakes_in_quarter_hours() {
         (
             &first,
             d(0, &[1, 900, 0, 0, 0, 0, 0, 0, 0, 0, 0, 0, 0, 0, 0, 0, 0, 7]),
+            "section far violations: 7; expected 0, by the Q lines of the day".into(),
+        ),
+        (
+            &first,
+            d(0, &[1, 900, 0, 0, 0, 0, 0, 0, 0, 0, 0, 0, 0, 0, 0, 0, 0, 0, 7]),
             "path near blocks: 7; expected 0, by the Q lines of the day".into(),
         ),
         // What is not whole is the last.
@@ -758,7 +781,7 @@ fn mistakes_in_quarter_hours() {
     // Seconds and quarter-hours do not stand in one listing.
     assert_eq!(read("D 0").unwrap_err(), "line 1: \"D\" begins the line; expected S, F, Q, R or E");
     assert_eq!(read("F 1 2 2 +IF\nQ 0").unwrap_err(), "line 2: \"Q\" begins the line; expected S, F, R or E");
-    let seconds = second(1, 9, (0, 0), [0; 8]);
+    let seconds = second(1, 9, (0, 0), [0; 10]);
     assert_eq!(after(&seconds, "Q 0"), "line 2: \"Q\" begins the line; expected S, F, R or E");
 }
 
@@ -778,7 +801,8 @@ fn the_day_among_the_examples_is_that_of_its_scenario() {
         told.starts_with("quarter-hour 50, seconds 45,001 to 45,900; 0 clear: 1,790 frames; 6 path AIS (dAIS): 10 frames; "),
         "{told}"
     );
-    assert!(told.ends_with("path near blocks: 0, DS in 5 of 900 seconds; path far blocks: 0"), "{told}");
+    assert!(told.ends_with("path near blocks: 0, DS in 5 of 900 seconds; path far blocks: 0; path far violations: 0"), "{told}");
+    assert!(figures(svg, "quarter-hour 83,").ends_with(&["path far blocks: 1,200", "path far violations: 2,400"]));
     assert_eq!(figures(svg, "day 1,")[..2], ["day 1, seconds 86,401 to 86,700", "0 clear: 600 frames"]);
 }
 

@@ -184,6 +184,6 @@ module _ (f : ℕ → List ℕ → List ℕ) (b0 : List ℕ) where
       let z : drop (32 + length (made f rs 6)) b0 ≡ [] = drop-of-length-le b0 {i = 32 + length (made f rs 6)} (omega (arith, t .wide)) in
       t .holds ∙ ap (λ (v : List ℕ). q ++ v) z ∙ append-nil q ∙ ap (λ (v : List ℕ). take 32 b0 ++ v) (made-all f rs (records-long 6 (drop 32 b0)))
 
-  -- and of a loop that writes four figures of each record over zeros
-  pub four-done : (zeros out : List ℕ) → length zeros ≡ 24 → Written f rs zeros 0 4 6 out → out ≡ chained (eachFrom f 1 rs)
-  four-done zeros out n t = t .holds ∙ over-all zeros (made f rs 6) (t .wide ∙ sym n) ∙ made-all f rs (records-long 6 (drop 32 b0))
+  -- and of a loop that writes five figures of each record over zeros
+  pub five-done : (zeros out : List ℕ) → length zeros ≡ 30 → Written f rs zeros 0 5 6 out → out ≡ chained (eachFrom f 1 rs)
+  five-done zeros out n t = t .holds ∙ over-all zeros (made f rs 6) (t .wide ∙ sym n) ∙ made-all f rs (records-long 6 (drop 32 b0))

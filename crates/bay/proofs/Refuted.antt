@@ -124,10 +124,10 @@ figures-early κs a x s b five e =
 
 -- mark_at: they are its own
 pub figures-none : (κs : Lfts 1) (a : Dens κs mark-at-kinds.ps) (x : List ℕ) (s : AtExit (endedOf 1 mark-at-kinds.ps mark-at-kinds.r) κs)
-    → now (a .0) ≡ counted → getD x 4 0 ≡ 0 → mark-at-reads.Post κs a x s → ⊥
+    → now (a .0) ≡ counted → getD x 5 0 ≡ 0 → mark-at-reads.Post κs a x s → ⊥
 unfolding figuresIn chained bytesIn discardOf
 figures-none κs a x s b none e =
-    let z : _≡_ {A = ℕ} 0 5 = sym none ∙ ap (λ (l : List ℕ). getD l 4 0) (rw b at (e .answers)) in
+    let z : _≡_ {A = ℕ} 0 5 = sym none ∙ ap (λ (l : List ℕ). getD l 5 0) (rw b at (e .answers)) in
     omega arith
 
 -- given_at: there is no level 7

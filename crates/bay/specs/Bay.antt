@@ -110,7 +110,7 @@ frameRecord ssf m overhead counts n r = levelRecord r ssf m (levelField overhead
 unfoldable pub framedIn : List ℕ → ℕ → Bool → Multi → List ℕ → List ℕ → List ℕ
 framedIn b flags ssf m overhead counts = ifBay b (eachGiven (frameRecord ssf m overhead counts) (set b 0 flags)) b
 
--- A mark: each provisioned level is closed, and has its four figures, "lowest level first"; zeros where it is not provisioned.
+-- A mark: each provisioned level is closed, and has its five figures, "lowest level first"; zeros where it is not provisioned.
 
 abbrev pub closedRecord : List ℕ → List ℕ
 closedRecord r = laid (laid r 0 (frontBytes (frontAfter r))) 32 (stateBytes (stateAfter r))
@@ -121,22 +121,22 @@ markRecord n r = closedRecord r
 unfoldable pub markedIn : List ℕ → List ℕ
 markedIn b = ifBay b (eachGiven markRecord b) b
 
--- near-end and far-end blocks, near and far DS, after the level's own discard
-abbrev pub fourBy : Blocks → List ℕ
-fourBy d = d .near .0 ∷ d .far .0 ∷ flag (d .neards) ∷ flag (d .fards) ∷ []
+-- near-end and far-end blocks, near and far DS, the sum of far-end violations, after the level's own discard; "The sum comes last in each layer's group"
+abbrev pub fiveBy : Blocks → List ℕ
+fiveBy d = d .near .0 ∷ d .far .0 ∷ flag (d .neards) ∷ flag (d .fards) ∷ d .sum .0 ∷ []
 
-abbrev pub fourRule : List ℕ → ℕ → List ℕ → List ℕ
-fourRule b n r = whereGiven b n (fourBy (closedIn r)) (replicate 4 0)
+abbrev pub fiveRule : List ℕ → ℕ → List ℕ → List ℕ
+fiveRule b n r = whereGiven b n (fiveBy (closedIn r)) (replicate 5 0)
 
-abbrev pub foursOf : List ℕ → List ℕ
-foursOf b = chained (eachFrom (fourRule b) 1 (recordsOf b))
+abbrev pub fivesOf : List ℕ → List ℕ
+fivesOf b = chained (eachFrom (fiveRule b) 1 (recordsOf b))
 
 unfoldable pub figuresIn : List ℕ → List ℕ
-figuresIn b = ifBay b (foursOf b) (replicate 24 0)
+figuresIn b = ifBay b (fivesOf b) (replicate 30 0)
 
 -- of one level, in its record
 pub record OneMark (given : Bool) (b : List ℕ) (r : List ℕ) (after : List ℕ) : Type 0 where
-  pub answers : r ≡ cond given (fourBy (closedIn b)) (replicate 4 0)
+  pub answers : r ≡ cond given (fiveBy (closedIn b)) (replicate 5 0)
   pub holds : after ≡ cond given (closedRecord b) b
 
 pub record MarkAt (b : List ℕ) (r : List ℕ) (after : List ℕ) : Type 0 where

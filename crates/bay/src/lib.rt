@@ -19,7 +19,7 @@ ghost use Rattle.names.specs.Names.{sameTrace};
 ghost use Rattle.overhead.specs.Overhead.{levelField};
 ghost use Rattle.ranges.specs.Sound.{below};
 ghost use Rattle.rack.specs.Rack.{levelRecord, levelSound};
-ghost use Rattle.bay.specs.Bay.{recordsOf, givenIn, allSound, baySound, eachRecord, freshRecord, blankNumbers, blankRule, blankBay, withRecord, gaveIn, eachGiven, frameRecord, framedIn, markRecord, foursOf, OneMark, MarkAt, stoodIn, standsIn, traceOf, tracedIn};
+ghost use Rattle.bay.specs.Bay.{recordsOf, givenIn, allSound, baySound, eachRecord, freshRecord, blankNumbers, blankRule, blankBay, withRecord, gaveIn, eachGiven, frameRecord, framedIn, markRecord, fivesOf, OneMark, MarkAt, stoodIn, standsIn, traceOf, tracedIn};
 
 // Whether each byte is at most its greatest: one loop, no branch.
 fn is_below(greatest: [u8; 32], w: [u8; 32]) -> bool
@@ -252,51 +252,51 @@ pub fn frame_at(b: &mut [u8], flags: u8, ssf: bool, m: Multi, overhead: &[u8], c
     }
 }
 
-// One level at a mark, in its record, where it is provisioned: its four figures.
-fn one_mark(r: &mut [u8], given: bool) -> [u32; 4]
+// One level at a mark, in its record, where it is provisioned: its five figures.
+fn one_mark(r: &mut [u8], given: bool) -> [u32; 5]
     ensures { λ f. ⌜ OneMark given (now (r .entry)) f (now (r .exit)) ⌝ }
 {
     if given {
         let d = place::close_at(r);
-        return [d.near.0, d.far.0, d.neards as u32, d.fards as u32];
+        return [d.near.0, d.far.0, d.neards as u32, d.fards as u32, d.sum.0];
     }
-    [0; 4]
+    [0; 5]
 }
 
-// Four figures from a place on.
-fn put_four(out: &mut [u32], at: usize, four: [u32; 4])
-    requires { ⌜ at + 4 ≤ length (now out) ⌝ }
-    ensures { λ _. ⌜ now (out .exit) ≡ over (now (out .entry)) at four ⌝ }
+// Five figures from a place on.
+fn put_five(out: &mut [u32], at: usize, five: [u32; 5])
+    requires { ⌜ at + 5 ≤ length (now out) ⌝ }
+    ensures { λ _. ⌜ now (out .exit) ≡ over (now (out .entry)) at five ⌝ }
 {
-    for i in 0..4 {
-        out[at + i] = four[i];
+    for i in 0..5 {
+        out[at + i] = five[i];
     }
 }
 
 // Each provisioned level at a mark: the figures of all six.
-fn mark_in(b: &mut [u8]) -> [u32; 24]
+fn mark_in(b: &mut [u8]) -> [u32; 30]
     requires { ⌜ length (now b) ≡ 1760 ⌝ }
-    ensures { λ r. ⌜ (r ≡ foursOf (now (b .entry))) × (now (b .exit) ≡ eachGiven markRecord (now (b .entry))) ⌝ }
+    ensures { λ r. ⌜ (r ≡ fivesOf (now (b .entry))) × (now (b .exit) ≡ eachGiven markRecord (now (b .entry))) ⌝ }
 {
-    let mut out = [0u32; 24];
+    let mut out = [0u32; 30];
     for i in 0..6 {
         let given = b[i + 1] == 1;
         let at = 32 + 288 * i;
         let end = at + 288;
-        let four = one_mark(&mut b[at..end], given);
-        put_four(&mut out, 4 * i, four);
+        let five = one_mark(&mut b[at..end], given);
+        put_five(&mut out, 5 * i, five);
     }
     out
 }
 
 // A mark: each provisioned level is closed in its record, and the figures of all six.
-pub fn mark_at(b: &mut [u8]) -> [u32; 24]
+pub fn mark_at(b: &mut [u8]) -> [u32; 30]
     ensures { λ r. ⌜ MarkAt (now (b .entry)) r (now (b .exit)) ⌝ }
 {
     if b.len() == 1760 {
         return mark_in(b);
     }
-    [0; 24]
+    [0; 30]
 }
 
 // Whether level n is provisioned.

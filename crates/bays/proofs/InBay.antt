@@ -24,12 +24,12 @@ use Rattle.place.specs.Place.{closedIn}
 use Rattle.rack.specs.Rack.{levelRecord, noLevel}
 use Rattle.racks.specs.Racks.{levelBytes, secondAfter}
 use Rattle.racks.proofs.Levels.{in-level}
-use Rattle.tandem.specs.Levels.{givenLevel, blankLevel, steppedLevel, markedLevel, fourOf, countAt, frameRule, markRule, framedLevels, markedLevels, levelFigures, levelAt, placedAt}
+use Rattle.tandem.specs.Levels.{givenLevel, blankLevel, steppedLevel, markedLevel, fiveOf, countAt, frameRule, markRule, framedLevels, markedLevels, levelFigures, levelAt, placedAt}
 use Rattle.tandem.specs.Tandem.{levelShown, levelTraced}
 use Rattle.tandem.specs.declared.Level.{Level}
 use Rattle.tandem.specs.declared.Tandem.{Tandem}
 use Rattle.watch.proofs.Alone.{at-number}
-use Rattle.bay.specs.Bay.{recordsFrom, recordsOf, chained, recordAt, givenIn, blankBay, withRecord, gaveIn, givenRule, eachGiven, frameRecord, framedIn, markRecord, markedIn, fourBy, fourRule, figuresIn, MarkAt, stoodIn, standsIn, noTrace, traceOf, tracedIn}
+use Rattle.bay.specs.Bay.{recordsFrom, recordsOf, chained, recordAt, givenIn, blankBay, withRecord, gaveIn, givenRule, eachGiven, frameRecord, framedIn, markRecord, markedIn, fiveBy, fiveRule, figuresIn, MarkAt, stoodIn, standsIn, noTrace, traceOf, tracedIn}
 use Rattle.bay.proofs.Given as given
 use Rattle.bays.specs.Image.{levelBytesOf, givenBytes, stripBytes, bayBytes}
 use Rattle.bays.specs.Ranges.{OneIn, AllIn, TandemIn}
@@ -61,9 +61,9 @@ unfolding markedLevel
 mark-made n l a =
     cond-under levelBytesOf (l .given) _ l ∙ ap (λ (r : List ℕ). cond (l .given) r (levelBytesOf l)) (sym (record-marked n l a .1))
 
-four-made : (l : Level) → OneIn l → fourOf l ≡ cond (l .given) (fourBy (closedIn (levelBytesOf l))) (replicate 4 0)
-unfolding fourOf
-four-made l a = ap (λ (d : Blocks). cond (l .given) (fourBy d) (replicate 4 0)) (sym (record-marked 1 l a .0))
+five-made : (l : Level) → OneIn l → fiveOf l ≡ cond (l .given) (fiveBy (closedIn (levelBytesOf l))) (replicate 5 0)
+unfolding fiveOf
+five-made l a = ap (λ (d : Blocks). cond (l .given) (fiveBy d) (replicate 5 0)) (sym (record-marked 1 l a .0))
 
 stands-made : (ssf : Bool) (l : Level) → OneIn l → stoodIn (levelBytesOf l) ssf ≡ levelStands (l .state) (l .options) ssf
 stands-made ssf l a = ap (λ (x : Level). levelStands (x .state) (x .options) ssf) (one-back l a)
@@ -109,11 +109,11 @@ unfolding bayBytes
 flags-set flags next ls = refl
 
 -- the figures of each level
-fours-made : (n : ℕ) (ls : List Level) (b : List ℕ) → Says n ls b → AllIn ls → chained (eachFrom (fourRule b) n (map levelBytesOf ls)) ≡ levelFigures ls
+fives-made : (n : ℕ) (ls : List Level) (b : List ℕ) → Says n ls b → AllIn ls → chained (eachFrom (fiveRule b) n (map levelBytesOf ls)) ≡ levelFigures ls
 unfolding chained levelFigures
-fours-made n [] b s a = refl
-fours-made n (l ∷ ls) b s a =
-    both (ap (λ (g : Bool). cond g (fourBy (closedIn (levelBytesOf l))) (replicate 4 0)) (s .0) ∙ sym (four-made l (a .0))) (fours-made (suc n) ls b (s .1) (a .1))
+fives-made n [] b s a = refl
+fives-made n (l ∷ ls) b s a =
+    both (ap (λ (g : Bool). cond g (fiveBy (closedIn (levelBytesOf l))) (replicate 5 0)) (s .0) ∙ sym (five-made l (a .0))) (fives-made (suc n) ls b (s .1) (a .1))
 
 -- A level provisioned in its place.
 
@@ -204,8 +204,8 @@ module _ (t : Tandem) (i : TandemIn t) where
   marked-in r x e =
       let figures : figuresIn b ≡ levelFigures ls =
       rw is-bay
-      (ap (λ (rs : List (List ℕ)). chained (eachFrom (fourRule b) 1 rs)) (records-of (t .flags) ls (i .six) (i .levels))
-      ∙ fours-made 1 ls b (says-of (t .flags) ls (i .six)) (i .levels)) in
+      (ap (λ (rs : List (List ℕ)). chained (eachFrom (fiveRule b) 1 rs)) (records-of (t .flags) ls (i .six) (i .levels))
+      ∙ fives-made 1 ls b (says-of (t .flags) ls (i .six)) (i .levels)) in
       let bytes : markedIn b ≡ bayBytes (t .flags) (markedLevels ls) =
       rw is-bay (each-bay markRecord markRule (λ n l. marked-given l) mark-made (t .flags) ls (i .six) (i .levels)) in
       (e .answers ∙ figures, e .holds ∙ bytes)

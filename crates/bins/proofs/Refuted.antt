@@ -9,7 +9,7 @@ use denote.Triple.Clauses.{AtExit}
 use denote.Ref.{now}
 use lib.ListN.{length, getD, replicate}
 use Rattle.listing.specs.Text.{fitted, decimalIn, spaced, fieldsOf, textLine}
-use Rattle.summary.specs.Summary.{fourGood, headsGood, validOf, followsOn, joinRefusal, joinOf, addedOf, secondOf}
+use Rattle.summary.specs.Summary.{fiveGood, headsGood, validOf, followsOn, joinRefusal, joinOf, addedOf, secondOf}
 use Rattle.summary.specs.declared.Summary.{Summary}
 use Rattle.bins.specs.Bins.{noBins, binsWith, openedOf, binLines}
 use Rattle.bins.specs.declared.Bins.{Bins}
@@ -30,8 +30,8 @@ day-begun κs x s one e = let z : _≡_ {A = ℕ} 1 0 = sym one ∙ ap (λ (b : 
 
 -- bins_with: second 5 begins what it is joined to where none is open
 pub from-one : (κs : Lfts 0) (x : Bins) (s : AtExit (endedOf 0 with-kinds.ps with-kinds.r) κs)
-    → x .quarter .first ≡ 1 → with-reads.Post κs (noBins, (5 ∷ replicate 43 0, tt)) x s → ⊥
-unfolding binsWith joinOf joinRefusal addedOf secondOf validOf followsOn headsGood fourGood
+    → x .quarter .first ≡ 1 → with-reads.Post κs (noBins, (5 ∷ replicate 51 0, tt)) x s → ⊥
+unfolding binsWith joinOf joinRefusal addedOf secondOf validOf followsOn headsGood fiveGood
 from-one κs x s one e = let z : _≡_ {A = ℕ} 1 5 = sym one ∙ ap (λ (b : Bins). b .quarter .first) e in omega arith
 
 -- opened: with second 900 the day does not close
@@ -44,12 +44,12 @@ day-closed κs a x s n long none e =
 
 -- closed_lines: with second 899 nothing closes
 pub closes-early : (κs : Lfts 1) (a : Dens κs closed-kinds.ps) (s : AtExit (endedOf 1 closed-kinds.ps closed-kinds.r) κs)
-    → a .1 .0 ≡ 899 → now (a .1 .1 .0) ≡ replicate 928 0 → a .1 .1 .1 .0 ≡ 0 → closed-reads.Post κs a 46 s → ⊥
+    → a .1 .0 ≡ 899 → now (a .1 .1 .0) ≡ replicate 1094 0 → a .1 .1 .1 .0 ≡ 0 → closed-reads.Post κs a 50 s → ⊥
 unfolding fitted binLines
-closes-early κs a s n d at e = let z : _≡_ {A = ℕ} 46 0 = rw (n, d, at) at (e .0) in omega arith
+closes-early κs a s n d at e = let z : _≡_ {A = ℕ} 50 0 = rw (n, d, at) at (e .0) in omega arith
 
 -- rest_lines: what has no second has no line
 pub empty-printed : (κs : Lfts 1) (a : Dens κs rest-kinds.ps) (s : AtExit (endedOf 1 rest-kinds.ps rest-kinds.r) κs)
-    → a .0 ≡ noBins → now (a .1 .0) ≡ replicate 928 0 → a .1 .1 .0 ≡ 0 → rest-reads.Post κs a 92 s → ⊥
+    → a .0 ≡ noBins → now (a .1 .0) ≡ replicate 1094 0 → a .1 .1 .0 ≡ 0 → rest-reads.Post κs a 100 s → ⊥
 unfolding fitted binLines
-empty-printed κs a s b d at e = let z : _≡_ {A = ℕ} 92 0 = rw (b, d, at) at (e .0) in omega arith
+empty-printed κs a s b d at e = let z : _≡_ {A = ℕ} 100 0 = rw (b, d, at) at (e .0) in omega arith

@@ -13,11 +13,12 @@ use Rattle.bins.specs.declared.Bins.{Bins}
 abbrev pub noBins : Bins
 noBins = record { quarter = emptySummary; day = emptySummary }
 
--- the twenty figures of line, section and path
-abbrev pub twentyOf : List ℕ → List ℕ
-twentyOf f =
+-- the 22 figures of line, section and path
+abbrev pub withoutLevels : List ℕ → List ℕ
+withoutLevels f =
     getD f 0 0 ∷ getD f 1 0 ∷ getD f 2 0 ∷ getD f 3 0 ∷ getD f 4 0 ∷ getD f 5 0 ∷ getD f 6 0 ∷ getD f 7 0 ∷ getD f 8 0 ∷ getD f 9 0
-    ∷ getD f 10 0 ∷ getD f 11 0 ∷ getD f 12 0 ∷ getD f 13 0 ∷ getD f 14 0 ∷ getD f 15 0 ∷ getD f 16 0 ∷ getD f 17 0 ∷ getD f 18 0 ∷ getD f 19 0 ∷ []
+    ∷ getD f 10 0 ∷ getD f 11 0 ∷ getD f 12 0 ∷ getD f 13 0 ∷ getD f 14 0 ∷ getD f 15 0 ∷ getD f 16 0 ∷ getD f 17 0 ∷ getD f 18 0 ∷ getD f 19 0
+    ∷ getD f 20 0 ∷ getD f 21 0 ∷ []
 
 -- a second, by its figures, joined to both
 unfoldable pub binsWith : Bins → List ℕ → Bins

@@ -6,7 +6,7 @@ ghost use lib.ListN.{length};
 ghost use Rattle.answer.specs.Over.{over};
 ghost use Rattle.listing.specs.Text.{fitted, secondRoom};
 ghost use Rattle.listing.specs.Wrote.{Wrote};
-ghost use Rattle.bins.specs.Bins.{twentyOf, binsWith, noBins, keptOf, openedOf, binNumber, lineIf, binLines, closedLines, restLines};
+ghost use Rattle.bins.specs.Bins.{withoutLevels, binsWith, noBins, keptOf, openedOf, binNumber, lineIf, binLines, closedLines, restLines};
 
 pub struct Bins {
     pub quarter: Summary,
@@ -25,9 +25,9 @@ pub fn no_bins() -> Bins
     }
 }
 
-// The twenty figures of line, section and path, of a second's.
-fn twenty_of(f: [u32; 44]) -> [u32; 20]
-    ensures { λ r. ⌜ r ≡ twentyOf f ⌝ }
+// The 22 figures of line, section and path, of a second's.
+fn without_levels(f: [u32; 52]) -> [u32; 22]
+    ensures { λ r. ⌜ r ≡ withoutLevels f ⌝ }
 {
     [
         f[0],
@@ -50,16 +50,18 @@ fn twenty_of(f: [u32; 44]) -> [u32; 20]
         f[17],
         f[18],
         f[19],
+        f[20],
+        f[21],
     ]
 }
 
 // A second joined to the open quarter-hour and to the open day.
-pub fn bins_with(b: Bins, f: [u32; 44]) -> Bins
+pub fn bins_with(b: Bins, f: [u32; 52]) -> Bins
     ensures { λ r. ⌜ r ≡ binsWith b f ⌝ }
 {
     let quarter = b.quarter;
     let day = b.day;
-    let g = twenty_of(f);
+    let g = without_levels(f);
     let s = summary::second_of(g);
     let q = summary::join(quarter, s);
     let d = summary::join(day, s);
@@ -103,8 +105,8 @@ fn number_of(first: u64, size: u64) -> u64
 // A line, where it is to be put.
 fn put_if(print: bool, letter: u8, size: u64, s: Summary, out: &mut [u8], at: usize) -> usize
     requires { ⌜ 1 ≤ size ⌝ }
-    requires { ⌜ at + 464 ≤ length (now out) ⌝ }
-    ensures { λ r. ⌜ Wrote 464 (now (out .entry)) at r (now (out .exit)) (lineIf print letter size s) ⌝ }
+    requires { ⌜ at + 506 ≤ length (now out) ⌝ }
+    ensures { λ r. ⌜ Wrote 506 (now (out .entry)) at r (now (out .exit)) (lineIf print letter size s) ⌝ }
 {
     if print {
         let number = number_of(s.first, size);
@@ -115,8 +117,8 @@ fn put_if(print: bool, letter: u8, size: u64, s: Summary, out: &mut [u8], at: us
 }
 
 fn put_both(quarter: bool, day: bool, b: Bins, out: &mut [u8], at: usize) -> usize
-    requires { ⌜ at + 928 ≤ length (now out) ⌝ }
-    ensures { λ r. ⌜ Wrote 928 (now (out .entry)) at r (now (out .exit)) (binLines quarter day b) ⌝ }
+    requires { ⌜ at + 1012 ≤ length (now out) ⌝ }
+    ensures { λ r. ⌜ Wrote 1012 (now (out .entry)) at r (now (out .exit)) (binLines quarter day b) ⌝ }
 {
     let q = b.quarter;
     let d = b.day;
@@ -124,14 +126,14 @@ fn put_both(quarter: bool, day: bool, b: Bins, out: &mut [u8], at: usize) -> usi
     put_if(day, b'D', 86400, d, out, p)
 }
 
-// The line of the quarter-hour, and then the line of the day, where each is to be put; where out has not the room of both, nothing.
+// The line of the quarter-hour, and then the line of the day, where each is to be put; where out has not `secondRoom`, nothing.
 fn put_bins(quarter: bool, day: bool, b: Bins, out: &mut [u8], at: usize) -> usize
     ensures { λ r. ⌜ (r ≡ at + length (fitted (length (now (out .entry))) at secondRoom (binLines quarter day b))) × (r ≤ at + secondRoom) × (now (out .exit) ≡ over (now (out .entry)) at (fitted (length (now (out .entry))) at secondRoom (binLines quarter day b))) ⌝ }
 {
-    if out.len() < 928 {
+    if out.len() < 1094 {
         return at;
     }
-    if out.len() - 928 < at {
+    if out.len() - 1094 < at {
         return at;
     }
     put_both(quarter, day, b, out, at)

@@ -10,6 +10,7 @@ use lib.ListN.{length, getD, take, drop, replicate, length-map, length-drop}
 use lib.Seq.{getD-drop, getD-take, length-take-le}
 use borrow.Author.Tests.{eqb-false}
 use Rattle.answer.specs.Bits.{flag}
+use Rattle.answer.specs.Bounded.{Bounded}
 use Rattle.words.specs.Words.{flat}
 use Rattle.words.proofs.Words.{length-flat, word-in-flat}
 use Rattle.codec.specs.Over.{poured}
@@ -30,14 +31,14 @@ use Rattle.history.specs.Ledger.{sumOf, marks as marksAmong}
 use Rattle.history.specs.Ranges.{AllAtMost}
 use Rattle.history.proofs.Ranges.{most-at}
 use Rattle.page.specs.Page.{answer}
-use Rattle.tandem.specs.Levels.{fourOf, levelAt}
+use Rattle.tandem.specs.Levels.{fiveOf, levelAt}
 use Rattle.tandem.specs.Tandem.{freshTandem, markedOf}
 use Rattle.tandem.specs.declared.Tandem.{Tandem}
 use Rattle.watch.specs.Watch.{marks, refusalAt, groupAt}
 use Rattle.watch.proofs.Alone.{plain-accepts, own-figures}
 use Rattle.late.specs.Late.{sectionErred, levelErred, levelsErred, nextReport, pendingOf, lateMarked}
 use Rattle.late.specs.declared.Late.{Late}
-use Rattle.reports.specs.Reports.{LineDemand3}
+use Rattle.reports.specs.Reports.{LineDemand3, SumBounds}
 use Rattle.reports.proofs.Lists.{marks-append}
 use Rattle.reports.proofs.Reports.{reported}
 use Rattle.slot.specs.Slot.{slotGreatest, figuresRanged}
@@ -120,7 +121,7 @@ unfolding sumTo
 sum-each [] = refl
 sum-each (x ∷ l) = ap (λ (n : ℕ). x + n) (sum-each l)
 
-ten : (v : List ℕ) → length v ≡ 44 → sumOf (take 10 (drop 2 v))
+ten : (v : List ℕ) → length v ≡ 52 → sumOf (take 10 (drop 2 v))
     ≡ getD v 2 0 + getD v 3 0 + getD v 4 0 + getD v 5 0 + getD v 6 0 + getD v 7 0 + getD v 8 0 + getD v 9 0 + getD v 10 0 + getD v 11 0
 unfolding sumTo
 ten v n =
@@ -142,12 +143,14 @@ ten v n =
       g 9 (lit< tt),
     )
 
--- A record of 176 bytes filled with figures that fit their words: its words are they, and demand 3 is read from it.
-recorded-by : (v out : List ℕ) → length v ≡ 44 → ((i : ℕ) → getD v i 0 ≤ 4294967295) → LineDemand3 v → length out ≡ 176 → RecordedSecond v (poured out (flat v))
-recorded-by v out n f d k =
+-- A record of 208 bytes filled with figures that fit their words: its words are they, and demand 3 is read from it.
+recorded-by : (v out : List ℕ) → length v ≡ 52 → ((i : ℕ) → getD v i 0 ≤ 4294967295) → LineDemand3 v → SumBounds v → length out ≡ 208 → RecordedSecond v (poured out (flat v))
+recorded-by v out n f d u k =
     let all : poured out (flat v) ≡ flat v = poured-all out (flat v) (omega (arith, length-flat v, n, k)) in
-    let w : (i : ℕ) → i < 44 → figureIn (poured out (flat v)) i ≡ getD v i 0 =
+    let w : (i : ℕ) → i < 52 → figureIn (poured out (flat v)) i ≡ getD v i 0 =
     λ i h. ap (λ (l : List ℕ). figureIn l i) all ∙ word-in-flat v i (omega (arith, f i)) (omega (arith, n, h)) in
+    let both : (i j : ℕ) → i < 52 → j < 52 → Bounded (getD v i 0) (getD v j 0) → Bounded (figureIn (poured out (flat v)) i) (figureIn (poured out (flat v)) j) =
+    λ i j h g b. rw (w i h, w j g) b in
     record {
       words = w;
       sum = omega (
@@ -166,8 +169,11 @@ recorded-by v out n f d k =
         w 10 (lit< tt),
         w 11 (lit< tt),
       );
-      near-most = omega (arith, d .near-most, w 2 (lit< tt), w 11 (lit< tt), w 16 (lit< tt));
-      far-most = omega (arith, d .far-most, w 2 (lit< tt), w 11 (lit< tt), w 17 (lit< tt));
+      near-most = omega (arith, d .near-most, w 2 (lit< tt), w 11 (lit< tt), w 17 (lit< tt));
+      far-most = omega (arith, d .far-most, w 2 (lit< tt), w 11 (lit< tt), w 18 (lit< tt));
+      section-sum = both 13 16 (lit< tt) (lit< tt) (u .section);
+      path-sum = both 18 21 (lit< tt) (lit< tt) (u .path);
+      level-sum = λ m low high. both (18 + 5 * m) (21 + 5 * m) (omega (arith, high)) (omega (arith, high)) (u .level m low high);
     }
 
 -- a mark that answers 256 is accepted, and a second was closed before it
@@ -191,19 +197,19 @@ told-pending c = by (eqb (closedBy c) 0)
 greatest-low : (i : ℕ) → getD slotGreatest i 0 ≤ 4294967295
 greatest-low i = most-at 4294967295 slotGreatest i all
   where
-    four : (l : List ℕ) → AllAtMost 4294967295 l → AllAtMost 4294967295 (400000 ∷ 400000 ∷ 1 ∷ 1 ∷ l)
-    four l a = (omega arith, (omega arith, (omega arith, (omega arith, a))))
+    five : (l : List ℕ) → AllAtMost 4294967295 l → AllAtMost 4294967295 (400000 ∷ 400000 ∷ 1 ∷ 1 ∷ 3200000 ∷ l)
+    five l a = (omega arith, (omega arith, (omega arith, (omega arith, (omega arith, a)))))
 
     counts : (n : ℕ) (l : List ℕ) → AllAtMost 4294967295 l → AllAtMost 4294967295 (replicate n 400000 ++ l)
     counts zero l a = a
     counts (suc n) l a = (omega arith, counts n l a)
 
     all : AllAtMost 4294967295 slotGreatest
-    all = counts 11 (drop 11 slotGreatest) (four (drop 15 slotGreatest) (four (drop 19 slotGreatest) (four (drop 23 slotGreatest) (four (drop 27 slotGreatest) (four (drop 31 slotGreatest) (four (drop 35 slotGreatest) (four (drop 39 slotGreatest) (four [] tt))))))))
+    all = counts 11 (drop 11 slotGreatest) (five (drop 16 slotGreatest) (five (drop 21 slotGreatest) (five (drop 26 slotGreatest) (five (drop 31 slotGreatest) (five (drop 36 slotGreatest) (five (drop 41 slotGreatest) (five (drop 46 slotGreatest) (five [] tt))))))))
 
 -- every figure of the pending second, and as it is reported, fits its word
 module _ (s : Late) (r : LateIn s) where
-  fits : (v : List ℕ) → figuresRanged v ≡ true → (length (s .tandem .base .seconds ∷ v) ≡ 44) × ((i : ℕ) → getD (s .tandem .base .seconds ∷ v) i 0 ≤ 4294967295)
+  fits : (v : List ℕ) → figuresRanged v ≡ true → (length (s .tandem .base .seconds ∷ v) ≡ 52) × ((i : ℕ) → getD (s .tandem .base .seconds ∷ v) i 0 ≤ 4294967295)
   fits v e = (ap suc (below-long slotGreatest v e), most)
     where
       most : (i : ℕ) → getD (s .tandem .base .seconds ∷ v) i 0 ≤ 4294967295
@@ -214,11 +220,11 @@ module _ (s : Late) (r : LateIn s) where
   unfolding lateMarked
   next-figures e = rw e
 
-  next-fits : (length (nextReport s) ≡ 44) × ((i : ℕ) → getD (nextReport s) i 0 ≤ 4294967295)
+  next-fits : (length (nextReport s) ≡ 52) × ((i : ℕ) → getD (nextReport s) i 0 ≤ 4294967295)
   next-fits =
       fits _ (voided-ranged (sectionErred (s .tandem)) (levelsErred (s .tandem)) (s .pending) (length-map (s .tandem .levels) levelErred ∙ r .tandem .six) (r .pending))
 
-  pending-fits : (length (pendingOf s .figures) ≡ 44) × ((i : ℕ) → getD (pendingOf s .figures) i 0 ≤ 4294967295)
+  pending-fits : (length (pendingOf s .figures) ≡ 52) × ((i : ℕ) → getD (pendingOf s .figures) i 0 ≤ 4294967295)
   unfolding pendingOf
   pending-fits = fits (s .pending) (r .pending)
 
@@ -227,26 +233,30 @@ module _ (b : List ℕ) (c : Course) (on : FromFresh b c) (r : LateIn (supAt c))
   some-closed : eqb (closedBy c) 0 ≡ false → 1 ≤ closedBy c
   some-closed e = let h = eqb-false (closedBy c) 0 e in omega (arith, h)
 
-  next-demand : (out : List ℕ) → actAnswer b (otn-mark out) ≡ 256 → length out ≡ 176 → RecordedSecond (nextReported c) (actFills b (otn-mark out))
+  next-demand : (out : List ℕ) → actAnswer b (otn-mark out) ≡ 256 → length out ≡ 208 → RecordedSecond (nextReported c) (actFills b (otn-mark out))
   next-demand out e k =
       let m = told-mark c (sym (says .marks out) ∙ e) in
       let taken : markedOf (tandemAt c) .refusal ≡ 0 = mark-taken b c on (m .0) in
       let f : actFills b (otn-mark out) ≡ poured out (flat (nextReported c)) = says .records out ∙ rw (m .0, m .1) in
       let is : nextReport (supAt c) ≡ nextReported c =
       sym (next-figures (supAt c) r (ap (λ (x : Tandem). markedOf x .refusal) (on .same) ∙ taken)) ∙ next-is b c on (m .0) (m .1) in
-      let fit = subst (λ (v : List ℕ). (length v ≡ 44) × ((i : ℕ) → getD v i 0 ≤ 4294967295)) is (next-fits (supAt c) r) in
+      let fit = subst (λ (v : List ℕ). (length v ≡ 52) × ((i : ℕ) → getD v i 0 ≤ 4294967295)) is (next-fits (supAt c) r) in
       let more = taken-more (freshTandem (freshOf (c .settings))) (c .calls) marks (on .taken) taken in
       let count = marks-append (c .calls) (marks ∷ []) in
-      let d = reported (c .settings) (on .settings) (c .calls ++ (marks ∷ [])) more .demand (closedBy c) (some-closed (m .1)) (omega (arith, count)) in
-      rw f (recorded-by (nextReported c) out (fit .0) (fit .1) d k)
+      let told = reported (c .settings) (on .settings) (c .calls ++ (marks ∷ [])) more in
+      let d = told .demand (closedBy c) (some-closed (m .1)) (omega (arith, count)) in
+      let u = told .bounds (closedBy c) (some-closed (m .1)) (omega (arith, count)) in
+      rw f (recorded-by (nextReported c) out (fit .0) (fit .1) d u k)
 
-  pending-demand : (out : List ℕ) → actAnswer b (otn-pending out) ≡ 256 → length out ≡ 176 → RecordedSecond (pendingNow c) (actFills b (otn-pending out))
+  pending-demand : (out : List ℕ) → actAnswer b (otn-pending out) ≡ 256 → length out ≡ 208 → RecordedSecond (pendingNow c) (actFills b (otn-pending out))
   pending-demand out e k =
       let m = told-pending c (sym (says .pendings out) ∙ e) in
       let f : actFills b (otn-pending out) ≡ poured out (flat (pendingNow c)) = says .pendingFills out ∙ rw m in
-      let fit = subst (λ (v : List ℕ). (length v ≡ 44) × ((i : ℕ) → getD v i 0 ≤ 4294967295)) (pending-now b c on m) (pending-fits (supAt c) r) in
-      let d = reported (c .settings) (on .settings) (c .calls) (on .taken) .demand (closedBy c) (some-closed m) (omega arith) in
-      rw f (recorded-by (pendingNow c) out (fit .0) (fit .1) d k)
+      let fit = subst (λ (v : List ℕ). (length v ≡ 52) × ((i : ℕ) → getD v i 0 ≤ 4294967295)) (pending-now b c on m) (pending-fits (supAt c) r) in
+      let told = reported (c .settings) (on .settings) (c .calls) (on .taken) in
+      let d = told .demand (closedBy c) (some-closed m) (omega arith) in
+      let u = told .bounds (closedBy c) (some-closed m) (omega arith) in
+      rw f (recorded-by (pendingNow c) out (fit .0) (fit .1) d u k)
 
   frame-reports : (f : Frame) (counts : List ℕ) → actRefusal b (otn-step f counts) ≡ 0 → ReportedCause (c .settings) (actAnswer b (otn-step f counts))
   unfolding refusedOn answerOn refusalOf
@@ -279,20 +289,20 @@ row-at (suc n) f rest (suc k) h = row-at n (λ i. f (suc i)) rest k (le-of-suc-l
 -- the figures of a closed second stand in the places of the table
 pub record-back : EveryRecordBack
 record-back n c = record {
-  reads = (refl, (refl, (refl, (refl, (refl, (refl, (refl, (refl, (refl, (refl, (refl, tt)))))))))));
+  reads = (refl, (refl, (refl, (refl, (refl, (refl, (refl, (refl, (refl, (refl, (refl, (refl, (refl, tt)))))))))))));
   under = λ head h. sym (getD-drop 2 (figuresOf n c) head 0) ∙ row-at 10 (λ k. getD (c .heads) k 0) (drop 12 (figuresOf n c)) head h;
 }
 
--- the words of a level stand behind the twenty
-word-of : (figures : List ℕ) (n : ℕ) → 1 ≤ n → (i : ℕ) → i < 4 → getD figures (20 + 4 * (n - 1) + i) 0 ≡ getD (groupAt figures n) i 0
+-- the words of a level stand behind those of line, section and path
+word-of : (figures : List ℕ) (n : ℕ) → 1 ≤ n → (i : ℕ) → i < 5 → getD figures (22 + 5 * (n - 1) + i) 0 ≡ getD (groupAt figures n) i 0
 word-of figures n low i h =
-    let e : 20 + 4 * (n - 1) + i ≡ (16 + 4 * n) + i = omega (arith, low) in
-    ap (λ (m : ℕ). getD figures m 0) e ∙ sym (getD-drop (16 + 4 * n) figures i 0) ∙ sym (getD-take 4 (drop (16 + 4 * n) figures) i 0 h)
+    let e : 22 + 5 * (n - 1) + i ≡ (17 + 5 * n) + i = omega (arith, low) in
+    ap (λ (m : ℕ). getD figures m 0) e ∙ sym (getD-drop (17 + 5 * n) figures i 0) ∙ sym (getD-take 5 (drop (17 + 5 * n) figures) i 0 h)
 
 pub level-words : EveryLevelWords
-unfolding fourOf
+unfolding fiveOf
 level-words t n six low high taken given =
-    let g : groupAt (markedOf t .figures) n ≡ fourOf (levelAt (t .levels) n) = own-figures t n six low high taken in
-    let at : (i : ℕ) → i < 4 → getD (markedOf t .figures) (20 + 4 * (n - 1) + i) 0 ≡ getD (fourOf (levelAt (t .levels) n)) i 0 =
+    let g : groupAt (markedOf t .figures) n ≡ fiveOf (levelAt (t .levels) n) = own-figures t n six low high taken in
+    let at : (i : ℕ) → i < 5 → getD (markedOf t .figures) (22 + 5 * (n - 1) + i) 0 ≡ getD (fiveOf (levelAt (t .levels) n)) i 0 =
     λ i h. word-of (markedOf t .figures) n low i h ∙ ap (λ (l : List ℕ). getD l i 0) g in
-    (at 0 (lit< tt) ∙ rw given, (at 1 (lit< tt) ∙ rw given, (at 2 (lit< tt) ∙ rw given, (at 3 (lit< tt) ∙ rw given, tt))))
+    (at 0 (lit< tt) ∙ rw given, (at 1 (lit< tt) ∙ rw given, (at 2 (lit< tt) ∙ rw given, (at 3 (lit< tt) ∙ rw given, (at 4 (lit< tt) ∙ rw given, tt)))))

@@ -251,7 +251,7 @@ told-on s (otn-level-report n) =
 told-on s (otn-level-trace n out) = low-byte _ (low s (otn-level-trace n out))
 
 -- bytes of another length
-module _ (l : List ℕ) (h : length l ≡ 2620 → ⊥) where
+module _ (l : List ℕ) (h : length l ≡ 2652 → ⊥) where
   unsound : lateSound l ≡ false
   unsound = by (lateSound l) refl
     where
@@ -261,7 +261,7 @@ module _ (l : List ℕ) (h : length l ≡ 2620 → ⊥) where
 
   all-17 : (a : Act) → actRefusal l a ≡ 17
   unfolding actRefusal freshRefusal levelRefusal callRefusal markRefusal pendingRefusal traceRefused toldRefusal levelTraceRefused
-  all-17 (otn-fresh p) = rw (ne-eqb (length l) 2620 h)
+  all-17 (otn-fresh p) = rw (ne-eqb (length l) 2652 h)
   all-17 (otn-level n q names) = rw unsound
   all-17 (otn-step f counts) = rw unsound
   all-17 (otn-mark out) = rw unsound

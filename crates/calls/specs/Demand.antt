@@ -6,6 +6,7 @@ use Prim.Native.Nat.{ℕ, _+_, _*_, _≤_, _<_}
 use lib.Dec.{eqb}
 use lib.ListN.{length, getD}
 use Rattle.answer.specs.Bits.{flag}
+use Rattle.answer.specs.Bounded.{Bounded}
 use Rattle.words.specs.Words.{wordAt}
 use Rattle.settings.specs.declared.Settings.{Settings}
 use Rattle.history.specs.History.{Frame}
@@ -50,19 +51,23 @@ abbrev pub figureIn : List ℕ → ℕ → ℕ
 figureIn r i = wordAt r (i * 4)
 
 -- A record filled with a second's figures: its words are they. The frames under the ten heads (OTN_UNDER) add up to the frames (OTN_FRAMES); neither of the
--- path's block counts (OTN_PATH_NEAR, OTN_PATH_FAR) is more than the frames under heads 0 and 9.
+-- path's block counts (OTN_PATH_NEAR, OTN_PATH_FAR) is more than the frames under heads 0 and 9. In section, path and each level "the sum is at least the far blocks and at
+-- most eight times them" (document 02, K7).
 pub record RecordedSecond (figures r : List ℕ) : Type 0 where
-  pub words : (i : ℕ) → i < 44 → figureIn r i ≡ getD figures i 0
+  pub words : (i : ℕ) → i < 52 → figureIn r i ≡ getD figures i 0
   pub sum : figureIn r 2 + figureIn r 3 + figureIn r 4 + figureIn r 5 + figureIn r 6
       + figureIn r 7 + figureIn r 8 + figureIn r 9 + figureIn r 10 + figureIn r 11 ≡ figureIn r 1
-  pub near-most : figureIn r 16 ≤ figureIn r 2 + figureIn r 11
-  pub far-most : figureIn r 17 ≤ figureIn r 2 + figureIn r 11
+  pub near-most : figureIn r 17 ≤ figureIn r 2 + figureIn r 11
+  pub far-most : figureIn r 18 ≤ figureIn r 2 + figureIn r 11
+  pub section-sum : Bounded (figureIn r 13) (figureIn r 16)
+  pub path-sum : Bounded (figureIn r 18) (figureIn r 21)
+  pub level-sum : (n : ℕ) → 1 ≤ n → n ≤ 6 → Bounded (figureIn r (18 + 5 * n)) (figureIn r (21 + 5 * n))
 
 -- Demand 3 on bytes: what holds of the next mark, of the pending second and of the next frame on the supervisor's bytes b after uses whose course is c. "demand 3
 -- speaks of each reported second"; its "heads and failing causes stay those of line, section and path" (document 02).
 pub record ByteDemand3 (b : List ℕ) (c : Course) : Type 0 where
-  pub recorded : (out : List ℕ) → actAnswer b (otn-mark out) ≡ 256 → length out ≡ 176 → RecordedSecond (nextReported c) (actFills b (otn-mark out))
-  pub pending : (out : List ℕ) → actAnswer b (otn-pending out) ≡ 256 → length out ≡ 176 → RecordedSecond (pendingNow c) (actFills b (otn-pending out))
+  pub recorded : (out : List ℕ) → actAnswer b (otn-mark out) ≡ 256 → length out ≡ 208 → RecordedSecond (nextReported c) (actFills b (otn-mark out))
+  pub pending : (out : List ℕ) → actAnswer b (otn-pending out) ≡ 256 → length out ≡ 208 → RecordedSecond (pendingNow c) (actFills b (otn-pending out))
   pub causes : (f : Frame) (counts : List ℕ) → actRefusal b (otn-step f counts) ≡ 0 → ReportedCause (c .settings) (actAnswer b (otn-step f counts))
 
 -- It holds of every list of uses after an accepted otn_fresh on any bytes.

@@ -224,7 +224,7 @@ pub record FromFresh (b : List ℕ) (c : Course) : Type 0 where
   pub leaves : (a : Act) → actBytes b a ≡ lateBytes (supAt (courseActed c a))
   -- 17 is not met on these bytes, and is met on bytes of another length
   pub not17 : (a : Act) → actRefusal b a ≡ 17 → ⊥
-  pub elsewhere : (l : List ℕ) → (length l ≡ 2620 → ⊥) → (a : Act) → actRefusal l a ≡ 17
+  pub elsewhere : (l : List ℕ) → (length l ≡ 2652 → ⊥) → (a : Act) → actRefusal l a ≡ 17
   -- a refused act, on any bytes, leaves the bytes and the buffer as they were
   pub kept : (l : List ℕ) (a : Act) → (actRefusal l a ≡ 0 → ⊥) → (actBytes l a ≡ l) × (actFills l a ≡ bufferOf a)
 

@@ -1,4 +1,4 @@
--- The record of a second as C reads it: a row for each of its words, named as include/otn.h names it; then the four words of each level. Assumes
+-- The record of a second as C reads it: a row for each of its words, named as include/otn.h names it; then the five words of each level. Assumes
 -- nothing.
 use mathlib.Core.Path.{_≡_}
 use mathlib.Core.Bool.{true}
@@ -34,10 +34,12 @@ recordTable =
     ∷ word "OTN_SECTION_FAR" 13 (λ n c. c .section .far .0)
     ∷ word "OTN_SECTION_NEAR_DS" 14 (λ n c. flag (c .section .neards))
     ∷ word "OTN_SECTION_FAR_DS" 15 (λ n c. flag (c .section .fards))
-    ∷ word "OTN_PATH_NEAR" 16 (λ n c. c .path .near .0)
-    ∷ word "OTN_PATH_FAR" 17 (λ n c. c .path .far .0)
-    ∷ word "OTN_PATH_NEAR_DS" 18 (λ n c. flag (c .path .neards))
-    ∷ word "OTN_PATH_FAR_DS" 19 (λ n c. flag (c .path .fards))
+    ∷ word "OTN_SECTION_FAR_SUM" 16 (λ n c. c .section .sum .0)
+    ∷ word "OTN_PATH_NEAR" 17 (λ n c. c .path .near .0)
+    ∷ word "OTN_PATH_FAR" 18 (λ n c. c .path .far .0)
+    ∷ word "OTN_PATH_NEAR_DS" 19 (λ n c. flag (c .path .neards))
+    ∷ word "OTN_PATH_FAR_DS" 20 (λ n c. flag (c .path .fards))
+    ∷ word "OTN_PATH_FAR_SUM" 21 (λ n c. c .path .sum .0)
     ∷ []
 
 -- each row's value stands in its place
@@ -53,7 +55,7 @@ pub record RecordBack (n : ℕ) (c : Second) : Type 0 where
 abbrev pub EveryRecordBack : Type 0
 EveryRecordBack = (n : ℕ) (c : Second) → RecordBack n c
 
--- The words of a level: the name in C, the place in the level's four, and what it holds of the level's closed second.
+-- The words of a level: the name in C, the place in the level's five, and what it holds of the level's closed second.
 pub record LevelWord : Type 0 where
   pub name : String
   pub place : ℕ
@@ -68,14 +70,15 @@ levelWords =
     ∷ levelWord "OTN_LEVEL_FAR" 1 (λ b. b .far .0)
     ∷ levelWord "OTN_LEVEL_NEAR_DS" 2 (λ b. flag (b .neards))
     ∷ levelWord "OTN_LEVEL_FAR_DS" 3 (λ b. flag (b .fards))
+    ∷ levelWord "OTN_LEVEL_FAR_SUM" 4 (λ b. b .sum .0)
     ∷ []
 
--- as C reads them (otn_level_figure): each row's value stands in its place behind the twenty, four for each level
+-- as C reads them (otn_level_figure): each row's value stands in its place behind those of line, section and path, five for each level
 abbrev pub LevelWordsRead : List ℕ → ℕ → Blocks → List LevelWord → Type 0
 LevelWordsRead figures n b [] = Unit {0}
-LevelWordsRead figures n b (w ∷ ws) = (getD figures (20 + 4 * (n - 1) + w .place) 0 ≡ w .value b) × LevelWordsRead figures n b ws
+LevelWordsRead figures n b (w ∷ ws) = (getD figures (22 + 5 * (n - 1) + w .place) 0 ≡ w .value b) × LevelWordsRead figures n b ws
 
--- The figures of every accepted mark: of each provisioned level its four.
+-- The figures of every accepted mark: of each provisioned level its five.
 abbrev pub EveryLevelWords : Type 0
 EveryLevelWords = (t : Tandem) (n : ℕ) → length (t .levels) ≡ 6 → 1 ≤ n → n ≤ 6 → markedOf t .refusal ≡ 0 → levelAt (t .levels) n .given ≡ true
     → LevelWordsRead (markedOf t .figures) n (levelClosed (levelAt (t .levels) n .second)) levelWords

@@ -192,13 +192,13 @@ module _ (sup out : List ℕ) where
     unfolding pendingRefusal
     taken-pending = rw b
 
-    pub pending-told : (pending bytes filled : List ℕ) → 0 < h .seconds → pending ≡ wordsIn 43 2448 sup → bytes ≡ flat (h .seconds ∷ pending)
+    pub pending-told : (pending bytes filled : List ℕ) → 0 < h .seconds → pending ≡ wordsIn 51 2448 sup → bytes ≡ flat (h .seconds ∷ pending)
         → filled ≡ poured out bytes → PendingCall sup out 256 filled
     unfolding pendingAnswer pendingRecord pendingOf lateFrom
     pending-told pending bytes filled z ep eb p =
         let n = late-bytes sup b in
         let t = rw seconds-is at (lt-ltb 0 (h .seconds) z) in
-        let f : bytes ≡ flat (tandemOf sup .base .seconds ∷ wordsOf 43 (drop 2448 sup)) = eb ∙ rw (ep, seconds-is, words-room 43 2448 sup (omega arith)) in
+        let f : bytes ≡ flat (tandemOf sup .base .seconds ∷ wordsOf 51 (drop 2448 sup)) = eb ∙ rw (ep, seconds-is, words-room 51 2448 sup (omega arith)) in
         record { answers = rw (taken-pending, t); fills = rw (taken-pending, t) (p ∙ ap (poured out) f) }
 
     pub pending-none : h .seconds ≤ 0 → PendingCall sup out 0 out
@@ -350,17 +350,17 @@ module _ (sup : List ℕ) (level : ℕ) (out : List ℕ) where
 -- otn_fresh
 
 module _ (sup : List ℕ) (p : Provision) where
-  pub fresh-17 : (length sup ≡ 2620 → ⊥) → FreshCall sup p 17 sup
+  pub fresh-17 : (length sup ≡ 2652 → ⊥) → FreshCall sup p 17 sup
   unfolding freshRefusal freshSup
   fresh-17 h =
-      let z = ne-eqb (length sup) 2620 h in
+      let z = ne-eqb (length sup) 2652 h in
       record { answers = rw z; holds = rw z }
 
-  pub fresh-by : length sup ≡ 2620 → freshRefusal sup p ≡ provisionRefusal p
+  pub fresh-by : length sup ≡ 2652 → freshRefusal sup p ≡ provisionRefusal p
   unfolding freshRefusal settingsRefusal
-  fresh-by h = rw (eq-eqb (length sup) 2620 h)
+  fresh-by h = rw (eq-eqb (length sup) 2652 h)
 
-  module _ (v : Provisioned) (g : length sup ≡ 2620) (h : v ≡ byValue p) where
+  module _ (v : Provisioned) (g : length sup ≡ 2652) (h : v ≡ byValue p) where
     fresh-is : freshRefusal sup p ≡ v .refusal
     fresh-is = fresh-by g ∙ sym (provision-number p) ∙ ap (λ (x : Provisioned). x .refusal) (sym h)
 

@@ -39,16 +39,16 @@ use Rattle.card.specs.Calls.{tandemOf, lateWith, erredIn}
 
 -- The test.
 
-all-last : (l : List ℕ) → length l ≡ 2620 → take 172 (drop 2448 l) ≡ drop 2448 l
-all-last l n = take-all 172 (drop 2448 l) (omega (arith, length-drop 2448 l))
+all-last : (l : List ℕ) → length l ≡ 2652 → take 204 (drop 2448 l) ≡ drop 2448 l
+all-last l n = take-all 204 (drop 2448 l) (omega (arith, length-drop 2448 l))
 
-pub late-is : (l : List ℕ) (x y : Bool) → length l ≡ 2620 → x ≡ tandemSound (take 2448 l) → y ≡ slotSound (take 172 (drop 2448 l)) → (x && y) ≡ lateSound l
+pub late-is : (l : List ℕ) (x y : Bool) → length l ≡ 2652 → x ≡ tandemSound (take 2448 l) → y ≡ slotSound (take 204 (drop 2448 l)) → (x && y) ≡ lateSound l
 unfolding lateSound
-late-is l x y n ex ey = rw (eq-eqb (length l) 2620 n, ex, ey, all-last l n)
+late-is l x y n ex ey = rw (eq-eqb (length l) 2652 n, ex, ey, all-last l n)
 
-pub late-not : (l : List ℕ) → (length l ≡ 2620 → ⊥) → false ≡ lateSound l
+pub late-not : (l : List ℕ) → (length l ≡ 2652 → ⊥) → false ≡ lateSound l
 unfolding lateSound
-late-not l n = rw (ne-eqb (length l) 2620 n)
+late-not l n = rw (ne-eqb (length l) 2652 n)
 
 -- Bytes within the first bytes are those bytes.
 window : (n k m : ℕ) (l : List ℕ) → k + n ≤ m → m ≤ length l → take n (drop k (take m l)) ≡ take n (drop k l)
@@ -66,30 +66,30 @@ abbrev firstOver : List ℕ → List ℕ → List ℕ
 firstOver l x = x ++ drop 2448 l
 
 abbrev slotOver : List ℕ → List ℕ → List ℕ
-slotOver l y = take 2448 l ++ (y ++ drop 172 (drop 2448 l))
+slotOver l y = take 2448 l ++ (y ++ drop 204 (drop 2448 l))
 
-module _ (l x y v : List ℕ) (n : length l ≡ 2620) (e : length x ≡ 2448) (k : length v ≡ 172) (p : y ≡ poured (take 172 (drop 2448 (firstOver l x))) v) where
+module _ (l x y v : List ℕ) (n : length l ≡ 2652) (e : length x ≡ 2448) (k : length v ≡ 204) (p : y ≡ poured (take 204 (drop 2448 (firstOver l x))) v) where
   poured-slot : y ≡ v
   poured-slot =
-      let s : take 172 (drop 2448 (firstOver l x)) ≡ drop 2448 l = ap (take 172) (drop-at x (drop 2448 l) 2448 e) ∙ all-last l n in
+      let s : take 204 (drop 2448 (firstOver l x)) ≡ drop 2448 l = ap (take 204) (drop-at x (drop 2448 l) 2448 e) ∙ all-last l n in
       let m : length v ≡ length (drop 2448 l) = omega (arith, length-drop 2448 l) in
       rw s at p ∙ poured-all (drop 2448 l) v m
 
   both-over : slotOver (firstOver l x) y ≡ x ++ v
   both-over =
-      let z : drop 172 (drop 2448 l) ≡ [] = drop-of-length-le (drop 2448 l) {i = 172} (omega (arith, length-drop 2448 l)) in
+      let z : drop 204 (drop 2448 l) ≡ [] = drop-of-length-le (drop 2448 l) {i = 204} (omega (arith, length-drop 2448 l)) in
       rw (take-at x (drop 2448 l) 2448 e, drop-at x (drop 2448 l) 2448 e, z, append-nil, poured-slot)
 
 -- A fresh supervisor.
 
-no-figures : flat (replicate 43 0) ≡ replicate 172 0
+no-figures : flat (replicate 51 0) ≡ replicate 204 0
 unfolding flat
 no-figures = refl
 
-pub stored-late : (l x y : List ℕ) (s : Supervisor) → length l ≡ 2620 → length x ≡ 2448 → x ≡ tandemBytes (freshTandem s)
-    → y ≡ poured (take 172 (drop 2448 (firstOver l x))) (replicate 172 0) → slotOver (firstOver l x) y ≡ lateBytes (freshLate (freshTandem s))
+pub stored-late : (l x y : List ℕ) (s : Supervisor) → length l ≡ 2652 → length x ≡ 2448 → x ≡ tandemBytes (freshTandem s)
+    → y ≡ poured (take 204 (drop 2448 (firstOver l x))) (replicate 204 0) → slotOver (firstOver l x) y ≡ lateBytes (freshLate (freshTandem s))
 unfolding lateBytes
-stored-late l x y s n e ex ey = both-over l x y (replicate 172 0) n e refl ey ∙ both ex (sym no-figures)
+stored-late l x y s n e ex ey = both-over l x y (replicate 204 0) n e refl ey ∙ both ex (sym no-figures)
 
 -- pIAE and pBIAE.
 
@@ -117,11 +117,11 @@ levels-are l a b c d e f n ea eb ec ed ee ef =
     let six : drop 288 (drop 1872 l) ≡ drop 2160 l = drop-drop 288 1872 l in
     rw (one, two, three, four, five, six, ea, eb, ec, ed, ee, ef)
 
-pub report-is : (l pending told r : List ℕ) (section : Erred) (levels : List Erred) (number : ℕ) → length l ≡ 2620 → number ≡ lateFrom l .tandem .base .seconds
-    → pending ≡ wordsIn 43 2448 l → section ≡ sectionErred (tandemFrom (take 2448 l)) → levels ≡ levelsErred (tandemFrom (take 2448 l))
+pub report-is : (l pending told r : List ℕ) (section : Erred) (levels : List Erred) (number : ℕ) → length l ≡ 2652 → number ≡ lateFrom l .tandem .base .seconds
+    → pending ≡ wordsIn 51 2448 l → section ≡ sectionErred (tandemFrom (take 2448 l)) → levels ≡ levelsErred (tandemFrom (take 2448 l))
     → told ≡ voided section levels pending → r ≡ flat (number ∷ told) → r ≡ flat (nextReport (lateFrom l))
 unfolding lateFrom
-report-is l pending told r section levels number n en ep es el et er = er ∙ rw (et, es, el, ep, en, words-room 43 2448 l (omega arith))
+report-is l pending told r section levels number n en ep es el et er = er ∙ rw (et, es, el, ep, en, words-room 51 2448 l (omega arith))
 
 -- the figures but the first, as words
 behind : (ws : List ℕ) → drop 4 (flat ws) ≡ flat (drop 1 ws)
@@ -168,13 +168,13 @@ module _ (l : List ℕ) (b : lateSound l ≡ true) where
 
   pub marked-late : (number : ℕ) (x y bytes : List ℕ) → number ≡ tandemOf l .base .seconds + 1 → number ≤ 4294967295 → length x ≡ 2448
       → bytes ≡ flat (markedOf (tandemFrom (take 2448 l)) .figures) → x ≡ tandemBytes (markedOf (tandemFrom (take 2448 l)) .tandem)
-      → y ≡ poured (take 172 (drop 2448 (firstOver l x))) (take 172 (drop 4 bytes)) → slotOver (firstOver l x) y ≡ lateBytes (lateMarked (lateFrom l) .late)
+      → y ≡ poured (take 204 (drop 2448 (firstOver l x))) (take 204 (drop 4 bytes)) → slotOver (firstOver l x) y ≡ lateBytes (lateMarked (lateFrom l) .late)
   unfolding lateMarked lateBytes lateFrom
   marked-late number x y bytes en h nx eb ex ey =
       let t : Tandem = tandemFrom (take 2448 l) in
       let z : markedOf t .refusal ≡ 0 = mark-accepted t (omega (arith, en, h)) in
       let f : List ℕ = drop 1 (markedOf t .figures) in
       let i = same-late .untested l b .tandem in
-      let k : length (flat f) ≡ 172 = slot-long f (closed-below t i z) in
-      let w : take 172 (drop 4 bytes) ≡ flat f = rw (eb, behind (markedOf t .figures)) (take-all 172 (flat f) (omega arith)) in
+      let k : length (flat f) ≡ 204 = slot-long f (closed-below t i z) in
+      let w : take 204 (drop 4 bytes) ≡ flat f = rw (eb, behind (markedOf t .figures)) (take-all 204 (flat f) (omega arith)) in
       rw z (both-over l x y (flat f) (late-bytes l b) nx k (rw w at ey) ∙ both ex refl)

@@ -1,4 +1,4 @@
--- What each call from C answers, and what the lent bytes hold after it: the supervisor with six tandem levels and its pending second that stands in 2620
+-- What each call from C answers, and what the lent bytes hold after it: the supervisor with six tandem levels and its pending second that stands in 2652
 -- bytes, by its definitions. "Checked in number order, after 17": each call's tests are a list, 17 first. "A refusal answers its number and nothing else; supervisor
 -- and lent buffers keep their contents." Assumes nothing.
 use mathlib.Core.Path.{_≡_}
@@ -67,7 +67,7 @@ provisionBy k sthr sdegm pthr pdegm smode pmode sdis pdis snames pnames = record
 
 -- otn_fresh: 17 where the bytes have a wrong length (they are not looked at), then 5 to 10
 abbrev pub freshChecks : List ℕ → Provision → List Check
-freshChecks sup p = check 17 (eqb (length sup) 2620) ∷ settingsChecks (p .k) (p .section) (p .path) (p .snames) (p .pnames)
+freshChecks sup p = check 17 (eqb (length sup) 2652) ∷ settingsChecks (p .k) (p .section) (p .path) (p .snames) (p .pnames)
 
 unfoldable pub freshRefusal : List ℕ → Provision → ℕ
 freshRefusal sup p = firstOf (freshChecks sup p)
@@ -161,7 +161,7 @@ pub record StepCall (sup overhead : List ℕ) (flags sm pm : ℕ) (counts : List
 abbrev pub toldBit : Bool → ℕ
 toldBit told = cond told 256 0
 
--- the twenty of line, section and path
+-- the figures of line, section and path
 abbrev pub figuresAt : Supervisor → List ℕ
 figuresAt s = figuresOf (s .seconds + 1) (closedOf (s .second))
 
@@ -169,7 +169,7 @@ figuresAt s = figuresOf (s .seconds + 1) (closedOf (s .second))
 abbrev pub erredIn : Held → Erred
 erredIn h = record { iae = h .state .iaeseen; biae = h .state .biaeseen }
 
--- otn_mark: 17, then 4; where a second is told its forty-four figures, as words, go into the record as far as it has room, and otherwise the record is left
+-- otn_mark: 17, then 4; where a second is told its fifty-two figures, as words, go into the record as far as it has room, and otherwise the record is left
 -- alone
 abbrev pub markChecks : List ℕ → List Check
 markChecks sup = check 17 (lateSound sup) ∷ check 4 (ltb (tandemOf sup .base .seconds) 4294967295) ∷ []

@@ -1,5 +1,5 @@
 // The calls of the line card's C firmware, on numbers and lent bytes: each tests, refuses, and then works part by part in the supervisor's
-// bytes, 688 of line, section and path, 1760 of six tandem levels and 172 of the pending second. include/otn.h documents them for C.
+// bytes, 688 of line, section and path, 1760 of six tandem levels and 204 of the pending second. include/otn.h documents them for C.
 use alignment::Multi;
 use answer::checked;
 use causes::Report;
@@ -69,9 +69,9 @@ fn is_tandem(sup: &[u8]) -> bool
 fn is_late(sup: &[u8]) -> bool
     ensures { λ r. ⌜ r ≡ lateSound (now (sup .entry)) ⌝ }
 {
-    if sup.len() == 2620 {
+    if sup.len() == 2652 {
         let tandem = is_tandem(&sup[0..2448]);
-        let slot = slot::is_slot(&sup[2448..2620]);
+        let slot = slot::is_slot(&sup[2448..2652]);
         return tandem & slot;
     }
     false
@@ -86,13 +86,13 @@ fn store(sup: &mut [u8], s: Supervisor)
     bay::lay_bay(&mut sup[688..2448]);
 }
 
-// 2620 lent bytes become the image of a supervisor with no level provisioned and no second pending.
+// 2652 lent bytes become the image of a supervisor with no level provisioned and no second pending.
 fn store_late(sup: &mut [u8], s: Supervisor)
-    requires { ⌜ length (now sup) ≡ 2620 ⌝ }
+    requires { ⌜ length (now sup) ≡ 2652 ⌝ }
     ensures { λ _. ⌜ now (sup .exit) ≡ lateBytes (freshLate (freshTandem s)) ⌝ }
 {
     store(&mut sup[0..2448], s);
-    codec::pour(&mut sup[2448..2620], &[0u8; 172]);
+    codec::pour(&mut sup[2448..2652], &[0u8; 204]);
 }
 
 // A fresh supervisor under a provisioning.
@@ -113,7 +113,7 @@ pub extern "C" fn otn_fresh(
 ) -> u64
     ensures { λ r. ⌜ FreshCall (now (sup .entry)) (provisionBy k smthr smdegm pmthr pmdegm smmode pmmode smdis pmdis (now (smnames .entry)) (now (pmnames .entry))) r (now (sup .exit)) ⌝ }
 {
-    if sup.len() == 2620 {
+    if sup.len() == 2652 {
         let section = Request {
             thr: smthr,
             degm: smdegm,
@@ -335,7 +335,7 @@ pub extern "C" fn otn_step_levels(
 }
 
 // An accepted mark in sound bytes of line, section and path: each layer closed, and the next second opened under its number; the figures of the closed one.
-fn mark_in(sup: &mut [u8], k: u8, number: u32) -> [u32; 20]
+fn mark_in(sup: &mut [u8], k: u8, number: u32) -> [u32; 22]
     requires { ⌜ length (now sup) ≡ 688 ⌝ }
     requires { ⌜ sound (now sup) ≡ true ⌝ }
     requires { ⌜ k ≡ loadOf (now sup) .settings .k ⌝ }
@@ -362,7 +362,7 @@ fn mark_in(sup: &mut [u8], k: u8, number: u32) -> [u32; 20]
 }
 
 // An accepted mark in sound bytes: line, section and path, then each level; the record of the closed second.
-fn close_in(sup: &mut [u8], k: u8, number: u32) -> [u8; 176]
+fn close_in(sup: &mut [u8], k: u8, number: u32) -> [u8; 208]
     requires { ⌜ length (now sup) ≡ 2448 ⌝ }
     requires { ⌜ tandemSound (now sup) ≡ true ⌝ }
     requires { ⌜ k ≡ tandemFrom (now sup) .base .settings .k ⌝ }
@@ -411,8 +411,8 @@ fn levels_erred(sup: &[u8]) -> [Erred; 6]
 }
 
 // The record that the next mark reports, under its number: the pending second, discarded by the open one too.
-fn report_in(sup: &[u8], number: u32) -> [u8; 176]
-    requires { ⌜ length (now sup) ≡ 2620 ⌝ }
+fn report_in(sup: &[u8], number: u32) -> [u8; 208]
+    requires { ⌜ length (now sup) ≡ 2652 ⌝ }
     requires { ⌜ number ≡ lateFrom (now sup) .tandem .base .seconds ⌝ }
     ensures { λ r. ⌜ r ≡ flat (nextReport (lateFrom (now (sup .entry)))) ⌝ }
 {
@@ -425,7 +425,7 @@ fn report_in(sup: &[u8], number: u32) -> [u8; 176]
 
 // An accepted mark in sound bytes: the second is closed, and is the pending one from then on.
 fn mark_late(sup: &mut [u8], k: u8, number: u32)
-    requires { ⌜ length (now sup) ≡ 2620 ⌝ }
+    requires { ⌜ length (now sup) ≡ 2652 ⌝ }
     requires { ⌜ lateSound (now sup) ≡ true ⌝ }
     requires { ⌜ k ≡ lateFrom (now sup) .tandem .base .settings .k ⌝ }
     requires { ⌜ number ≡ lateFrom (now sup) .tandem .base .seconds + 1 ⌝ }
@@ -433,7 +433,7 @@ fn mark_late(sup: &mut [u8], k: u8, number: u32)
     ensures { λ _. ⌜ now (sup .exit) ≡ lateBytes (lateMarked (lateFrom (now (sup .entry))) .late) ⌝ }
 {
     let bytes = close_in(&mut sup[0..2448], k, number);
-    codec::pour(&mut sup[2448..2620], &bytes[4..176]);
+    codec::pour(&mut sup[2448..2652], &bytes[4..208]);
 }
 
 // A mark: the pending second, if there is one, goes into the record, and the one just closed is pending.

@@ -1,6 +1,6 @@
 -- Wrong answers that the contracts shut out, each for one input. Assumes nothing.
 use mathlib.Core.Path.{_≡_, ap, sym, _∙_}
-use mathlib.Core.Bool.{true, false, true≢false}
+use mathlib.Core.Bool.{Bool, true, false, true≢false}
 use mathlib.Core.List.{List, [], _∷_}
 use Prim.Native.Nat.{ℕ}
 use native.Mathlib.Omega.{arith}
@@ -11,9 +11,9 @@ use denote.Ref.{now}
 use lib.ListN.{getD, replicate}
 use Rattle.answer.specs.Over.{over}
 use Rattle.codec.specs.Over.{laid}
-use Rattle.words.specs.Words.{countedIn}
+use Rattle.words.specs.Words.{countedIn, addedIn}
 use Rattle.filter.specs.declared.Filter.{Filter}
-use Rattle.filter.specs.Filter.{upOf, filterOf}
+use Rattle.filter.specs.Filter.{upOf, addOf, filterOf}
 use Rattle.fields.specs.Fields.{statLaid, flagsLaid, countsIn}
 use Rattle.fields.proofs.filter_at.Kinds as filter-at-kinds
 use Rattle.fields.proofs.filter_at.Reads as filter-at-reads
@@ -55,11 +55,24 @@ flag-taken-back κs a s b biae end e =
     let z : _≡_ {A = ℕ} 0 1 = sym end ∙ ap (λ (l : List ℕ). getD l 3 0) h in
     omega arith
 
+-- counts_at: of the same words and blocks
+counted-by : {w v : List ℕ} {n m f g : Bool} {x y : ℕ} → w ≡ v → n ≡ m → f ≡ g → x ≡ y → countsIn n f x w ≡ countsIn m g y v
+counted-by p q r t = cc
+
 -- counts_at: a far-end block is not counted at the near end
 pub far-for-near : (κs : Lfts 1) (a : Dens κs counts-at-kinds.ps) (s : AtExit (endedOf 1 counts-at-kinds.ps counts-at-kinds.r) κs)
-    → now (a .0) ≡ replicate 8 0 → a .1 .0 ≡ false → a .1 .1 .0 ≡ true → getD (now (s .0)) 0 0 ≡ 1 → counts-at-reads.Post κs a tt s → ⊥
-unfolding countedIn laid over upOf
-far-for-near κs a s b near far end e =
-    let h : now (s .0) ≡ countsIn false true (replicate 8 0) = rw (b, near, far) at e in
-    let z : _≡_ {A = ℕ} 1 0 = sym end ∙ ap (λ (l : List ℕ). getD l 0 0) h in
+    → now (a .0) ≡ replicate 12 0 → a .1 .0 ≡ false → a .1 .1 .0 ≡ true → a .1 .1 .1 .0 ≡ 8 → getD (now (s .0)) 4 0 ≡ 1 → counts-at-reads.Post κs a tt s → ⊥
+unfolding countedIn addedIn laid over upOf addOf
+far-for-near κs a s b near far more end e =
+    let h : now (s .0) ≡ countsIn false true 8 (replicate 12 0) = e ∙ counted-by b near far more in
+    let z : _≡_ {A = ℕ} 1 0 = sym end ∙ ap (λ (l : List ℕ). getD l 4 0) h in
+    omega arith
+
+-- counts_at: eight violations are eight in the sum, and not one
+pub one-for-eight : (κs : Lfts 1) (a : Dens κs counts-at-kinds.ps) (s : AtExit (endedOf 1 counts-at-kinds.ps counts-at-kinds.r) κs)
+    → now (a .0) ≡ replicate 12 0 → a .1 .0 ≡ false → a .1 .1 .0 ≡ true → a .1 .1 .1 .0 ≡ 8 → getD (now (s .0)) 0 0 ≡ 1 → counts-at-reads.Post κs a tt s → ⊥
+unfolding countedIn addedIn laid over upOf addOf
+one-for-eight κs a s b near far more end e =
+    let h : now (s .0) ≡ countsIn false true 8 (replicate 12 0) = e ∙ counted-by b near far more in
+    let z : _≡_ {A = ℕ} 1 8 = sym end ∙ ap (λ (l : List ℕ). getD l 0 0) h in
     omega arith

@@ -1,4 +1,4 @@
--- The numbers of a layer's state in their bytes, and what becomes of them: a filter, a STAT, the flags and the counts of the second. Bytes of
+-- The numbers of a layer's state in their bytes, and what becomes of them: a filter, a STAT, the flags, counts and sum of the second. Bytes of
 -- another length than the number's are as they stood. Assumes nothing.
 use mathlib.Core.Path.{_≡_}
 use mathlib.Core.Bool.{Bool, cond}
@@ -8,7 +8,7 @@ use lib.Bits.{bitOr}
 use lib.Dec.{eqb}
 use lib.ListN.{length, getD}
 use Rattle.answer.specs.Bits.{flag}
-use Rattle.words.specs.Words.{countedIn}
+use Rattle.words.specs.Words.{countedIn, addedIn}
 use Rattle.filter.specs.Filter.{quiet, filterOf}
 use Rattle.filter.specs.declared.Filter.{Filter}
 use Rattle.filter.specs.declared.Stat.{Stat}
@@ -48,9 +48,9 @@ flagsIn near far iae biae w = raised near (getD w 0 0) ∷ raised far (getD w 1 
 abbrev pub flagsLaid : Bool → Bool → Bool → Bool → List ℕ → List ℕ
 flagsLaid near far iae biae w = sized 4 w (flagsIn near far iae biae w) w
 
--- two counts of the second (near and far blocks)
+-- two counts and a sum of the second (near and far blocks, far-end violations): the sum stands first
 abbrev pub countedBy : Bool → ℕ → List ℕ → List ℕ
 countedBy more i w = cond more (countedIn w i 400000) w
 
-abbrev pub countsIn : Bool → Bool → List ℕ → List ℕ
-countsIn near far w = countedBy far 1 (countedBy near 0 w)
+abbrev pub countsIn : Bool → Bool → ℕ → List ℕ → List ℕ
+countsIn near far more w = countedBy far 2 (countedBy near 1 (addedIn w 0 more 3200000))

@@ -1,4 +1,4 @@
-// The numbers of a layer's state in lent bytes: a filter, a STAT, the flags and the counts of the second. Each function takes any bytes: those
+// The numbers of a layer's state in lent bytes: a filter, a STAT, the flags, counts and sum of the second. Each function takes any bytes: those
 // of another length than the number's are not written.
 use filter::Filter;
 use filter::Stat;
@@ -72,10 +72,11 @@ fn bump(w: &mut [u8], i: u32, more: bool)
     }
 }
 
-// The two counts of the second.
-pub fn counts_at(w: &mut [u8], near: bool, far: bool)
-    ensures { λ _. ⌜ now (w .exit) ≡ countsIn near far (now (w .entry)) ⌝ }
+// The two counts and the sum of the second: `more` violations at the far end.
+pub fn counts_at(w: &mut [u8], near: bool, far: bool, more: u32)
+    ensures { λ _. ⌜ now (w .exit) ≡ countsIn near far more (now (w .entry)) ⌝ }
 {
-    bump(w, 0, near);
-    bump(w, 1, far);
+    words::add_at(w, 0, more, 3200000);
+    bump(w, 1, near);
+    bump(w, 2, far);
 }

@@ -4,11 +4,11 @@ use mathlib.Core.Path.{_≡_, refl}
 use mathlib.Core.Bool.{Bool, true, false, cond, Bool·beq}
 use native.Mathlib.Omega.{arith}
 use lib.Dec.{leb, ltb, eqb}
-use borrow.Author.Tests.{leb-true, leb-false, ltb-true, lt-ltb, eqb-false, eq-eqb, ne-eqb}
+use borrow.Author.Tests.{leb-true, leb-false, ltb-true, le-leb, lt-ltb, eqb-false, eq-eqb, ne-eqb}
 use Rattle.answer.proofs.Cond.{by-cond}
 use Rattle.filter.specs.declared.Filter.{Filter}
 use Rattle.filter.specs.declared.Stat.{Stat}
-use Rattle.filter.specs.Filter.{upOf, filterOf}
+use Rattle.filter.specs.Filter.{upOf, addOf, filterOf}
 use Rattle.filter.specs.Stat.{inRow, statOf}
 
 -- a counter is at most its bound
@@ -20,6 +20,15 @@ up-most run n = by-cond (λ (x : ℕ). x ≤ n) (ltb run n) (λ e. let h : run <
 pub up-plain : (run n : ℕ) → run < n → upOf run n ≡ run + 1
 unfolding upOf
 up-plain run n h = rw (lt-ltb run n h)
+
+-- the same of so many more
+pub add-most : (run more most : ℕ) → addOf run more most ≤ most
+unfolding addOf
+add-most run more most = by-cond (λ (x : ℕ). x ≤ most) (leb (run + more) most) (λ e. leb-true (run + more) most e) (λ _. omega arith)
+
+pub add-plain : (run more most : ℕ) → run + more ≤ most → addOf run more most ≡ run + more
+unfolding addOf
+add-plain run more most h = rw (le-leb (run + more) most h)
 
 -- one more comes to the bound exactly where the plain count does
 pub up-reaches : (run n : ℕ) → eqb (upOf run n) n ≡ leb n (suc run)

@@ -6,10 +6,12 @@ use native.Mathlib.Omega.{arith}
 use Rattle.answer.specs.Answer.{NoAnswer}
 use Rattle.filter.specs.declared.Filter.{Filter}
 use Rattle.filter.specs.declared.Stat.{Stat}
-use Rattle.filter.specs.Filter.{upOf, filterOf}
+use Rattle.filter.specs.Filter.{upOf, addOf, filterOf}
 use Rattle.filter.specs.Stat.{inRow, statOf}
 use Rattle.filter.proofs.up.Kinds as up-kinds
 use Rattle.filter.proofs.up.Reads as up-reads
+use Rattle.filter.proofs.add.Kinds as add-kinds
+use Rattle.filter.proofs.add.Reads as add-reads
 use Rattle.filter.proofs.filter_step.Kinds as filter-kinds
 use Rattle.filter.proofs.filter_step.Reads as filter-reads
 use Rattle.filter.proofs.stat_step.Kinds as stat-kinds
@@ -40,6 +42,11 @@ up-wraps s e = let h : _≡_ {A = ℕ} 0 5 = e in omega arith
 pub up-by-two : NotUp 3 5 5
 unfolding upOf
 up-by-two s e = let h : _≡_ {A = ℕ} 5 4 = e in omega arith
+
+-- what would go beyond the bound comes to it, and is not left out
+pub add-leaves-out : NoAnswer add-kinds.ps add-kinds.r add-reads.Post (3, (8, (5, tt))) 3
+unfolding addOf
+add-leaves-out s e = let h : _≡_ {A = ℕ} 3 5 = e in omega arith
 
 -- the third of a filter of three is taken over: a filter is of n and n, not of five
 pub never-taken-over : (x : Filter) → x .on ≡ false → NotFilter false 2 3 false true x

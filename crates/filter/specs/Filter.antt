@@ -2,12 +2,16 @@
 -- Assumes nothing.
 use Prim.Native.Nat.{ℕ, _+_}
 use mathlib.Core.Bool.{Bool, false, cond, Bool·beq}
-use lib.Dec.{ltb, eqb}
+use lib.Dec.{ltb, leb, eqb}
 use Rattle.filter.specs.declared.Filter.{Filter}
 
 -- one more, and n at most
 unfoldable pub upOf : ℕ → ℕ → ℕ
 upOf run n = cond (ltb run n) (run + 1) n
+
+-- so many more, and most at most
+unfoldable pub addOf : ℕ → ℕ → ℕ → ℕ
+addOf run more most = cond (leb (run + more) most) (run + more) most
 
 -- fresh, and forgotten
 abbrev pub quiet : Filter

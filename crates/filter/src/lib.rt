@@ -1,7 +1,7 @@
 // Counters that stop at their bound, the filter of n and n, and three in a row.
 ghost use mathlib.Core.Path.{_≡_};
 ghost use mathlib.Core.Bool.{false};
-ghost use Rattle.filter.specs.Filter.{upOf, filterOf};
+ghost use Rattle.filter.specs.Filter.{upOf, addOf, filterOf};
 ghost use Rattle.filter.specs.Stat.{statOf};
 
 // A filter of n and n: `run` counts the bits in a row, the last among them, that are not `on`.
@@ -26,6 +26,18 @@ pub fn up(run: u32, n: u32) -> u32
         return run + 1;
     }
     n
+}
+
+// So many more, and most at most.
+pub fn add(run: u32, more: u32, most: u32) -> u32
+    ensures { λ r. ⌜ r ≡ addOf run more most ⌝ }
+{
+    if run <= most {
+        if more <= most - run {
+            return run + more;
+        }
+    }
+    most
 }
 
 // The filter after one more bit, where nothing is forgotten.

@@ -4,6 +4,7 @@ use mathlib.Core.Bool.{Bool, false, _||_}
 use lib.Dec.{leb, eqb}
 use Rattle.overhead.specs.declared.Field.{Field}
 use Rattle.overhead.specs.declared.Overhead.{Overhead}
+use Rattle.overhead.specs.Bei.{beiOf, isBiae}
 use Rattle.filter.specs.declared.Stat.{Stat}
 use Rattle.filter.specs.Filter.{quiet, filterOf}
 use Rattle.filter.specs.Stat.{noStat, statOf}
@@ -47,7 +48,7 @@ sectionOf s p ssf m f =
     record {
       layer = l;
       iae = filterOf (s .iae) 5 (ssf || dTIM) (f .iae);
-      biae = filterOf (s .biae) 3 (ssf || dTIM) (eqb (f .bei) 11);
+      biae = filterOf (s .biae) 3 (ssf || dTIM) (isBiae (beiOf (f .bei)));
     }
 
 -- the section's defects

@@ -140,7 +140,9 @@ fn section_step(s: SectionState, p: Options, ssf: bool, m: Multi, f: Field) -> S
     let layer = layer::layer_step(l, ssf, m.inmulti, m.number, f.tti, f.bdi);
     let tim = layer::tim(layer, p.mode, names);
     let iae = filter::filter_step(i, 5, ssf | tim, f.iae);
-    let biae = filter::filter_step(b, 3, ssf | tim, f.bei == 11);
+    let read = overhead::bei_of(f.bei);
+    let mark = overhead::is_mark(read);
+    let biae = filter::filter_step(b, 3, ssf | tim, mark);
     SectionFrame {
         state: SectionState {
             layer: layer,

@@ -1,7 +1,7 @@
 -- Demand 3 of a closed second: one law for every counter, one for every DS, and the second that a mark closes. Assumes nothing.
-use Prim.Native.Nat.{ℕ, zero, suc, _+_, _<_, _≤_}
+use Prim.Native.Nat.{ℕ, zero, suc, _+_, _*_, _<_, _≤_, zero-le}
 use mathlib.Core.Path.{_≡_, refl, ap, _∙_, subst⁻¹}
-use mathlib.Core.Bool.{Bool, true, false, not, _&&_, _||_, true≢false}
+use mathlib.Core.Bool.{Bool, true, false, cond, not, _&&_, _||_, true≢false}
 use mathlib.Core.List.{List, [], _∷_, _++_, map}
 use native.Mathlib.Nat.{le-of-suc-le-suc, not-suc-le-zero, add-zero, zero-add}
 use native.Mathlib.Omega.{arith}
@@ -11,18 +11,23 @@ use borrow.Author.Tests.{ltb-true, lt-ltb}
 use Rattle.answer.proofs.Cond.{by-cond, cond-under}
 use Rattle.answer.proofs.Checks.{passed}
 use Rattle.filter.specs.Filter.{upOf}
-use Rattle.filter.proofs.Bounds.{up-plain}
+use Rattle.filter.proofs.Bounds.{up-plain, add-plain}
 use Rattle.overhead.specs.Overhead.{overheadOf, farBlock}
-use Rattle.causes.specs.Causes.{pathSsf, pathDown, headOf}
-use Rattle.second.specs.Second.{nearOf, farOf, oneFrame, oneUnder, blocksOf, countOf, discardOf, closedOf, figuresOf, freshSecond}
+use Rattle.overhead.specs.Bei.{beiOf, pathBei, isFar, violationsOf}
+use Rattle.overhead.specs.declared.Bei.{Bei}
+use Rattle.overhead.proofs.Codes.{same-far}
+use Rattle.causes.specs.Causes.{ssfOf, pathSsf, pathDown, headOf}
+use Rattle.second.specs.Second.{nearOf, farOf, sumOf as addedTo, countedOf, oneFrame, oneUnder, blocksOf, countOf, discardOf, closedOf, figuresOf, freshSecond}
 use Rattle.answer.specs.Bits.{flag}
+use Rattle.answer.specs.Bounded.{Bounded}
 use Rattle.answer.proofs.Bits.{flag-most}
 use Rattle.supervisor.specs.Supervisor.{freshOf, stepChecks, stepRefusal, frameOf, nextSecond, markOf}
 use Rattle.history.specs.History.{Frame, Event, frame, mark, standsAt, framed, eventOf, after, refusalOf, Accepted}
-use Rattle.history.specs.Ledger.{Question, tally, some, under, sectionNear, sectionFar, sectionNearDs, sectionFarDs, sectionIae, sectionBiae, pathNear, pathFar, pathNearDs, pathFarDs, sumOf, Says, Begins, at-start, after-mark, Since, lineFigures, marks, EveryDemand3}
+use Rattle.history.specs.Ledger.{Question, Amount, total, tally, some, under, sectionNear, sectionFar, sectionViolations, sectionNearDs, sectionFarDs, sectionIae, sectionBiae, pathNear, pathFar, pathViolations, pathNearDs, pathFarDs, sumOf, Says, Begins, at-start, after-mark, Since, lineFigures, marks, EveryDemand3}
 use Rattle.causes.specs.declared.Standing.{Standing}
 use Rattle.second.specs.declared.Near.{Near}
 use Rattle.second.specs.declared.Far.{Far}
+use Rattle.second.specs.declared.Sum.{Sum}
 use Rattle.second.specs.declared.Second.{Second}
 use Rattle.settings.specs.declared.Settings.{Settings}
 use Rattle.supervisor.specs.declared.Supervisor.{Supervisor}
@@ -50,27 +55,40 @@ ten-law : (c : Second) (d : Standing) (f : Frame) → length (c .heads) ≡ 10 �
 unfolding countOf oneUnder
 ten-law c d f e = by-cond (λ (l : List ℕ). length l ≡ 10) (ltb (headOf d) 10) (λ _. simp length-set e) (λ _. e)
 
--- the tallies have room while the frames have
-record Room (get : Second → ℕ) (c : Second) : Type 0 where
+-- What a frame adds is at most so many, and the frames of a second find room: one and 400,000 of a count, eight and 3,200,000 of a sum.
+pub record Adds (each room : ℕ) : Type 0 where
+  pub fits : (n : ℕ) → n < 400000 → each * n + each ≤ room
+  pub grows : (n : ℕ) → each * n + each ≤ each * (n + 1)
+
+pub adds-one : Adds 1 400000
+adds-one = record { fits = λ n h. omega (arith, h); grows = λ n. omega arith }
+
+pub adds-eight : Adds 8 3200000
+adds-eight = record { fits = λ n h. omega (arith, h); grows = λ n. omega arith }
+
+-- the totals have room while the frames have
+record Room (each : ℕ) (get : Second → ℕ) (c : Second) : Type 0 where
   ten : length (c .heads) ≡ 10
-  below : get c ≤ c .frames .0
+  below : get c ≤ each * c .frames .0
 
--- a number of the second that grows by one in the frames of a question is the tally of those frames
-module _ (get : Second → ℕ) (q : Question) (law : (c : Second) (d : Standing) (f : Frame) → length (c .heads) ≡ 10 → get c < 400000 → get (counted c d f) ≡ get c + flag (q d f)) where
-  one-frame : (s : Supervisor) (f : Frame) → refusalOf s (frame f) ≡ 0 → Room get (s .second) → get (framed s f .second) ≡ get (s .second) + flag (q (standsAt s f) f)
-  one-frame s f a i = let r : s .second .frames .0 < 400000 = room s f a in rw step-second (law (s .second) (standsAt s f) f (i .ten) (omega (arith, i .below)))
+-- a number of the second that grows by an amount in each frame is the total of that amount
+module _ (each cap : ℕ) (w : Adds each cap) (get : Second → ℕ) (amount : Amount) (low : (d : Standing) (f : Frame) → amount d f ≤ each)
+    (law : (c : Second) (d : Standing) (f : Frame) → length (c .heads) ≡ 10 → get c + each ≤ cap → get (counted c d f) ≡ get c + amount d f) where
+  one-frame : (s : Supervisor) (f : Frame) → refusalOf s (frame f) ≡ 0 → Room each get (s .second) → get (framed s f .second) ≡ get (s .second) + amount (standsAt s f) f
+  one-frame s f a i =
+      let r = w .fits (s .second .frames .0) (room s f a) in rw step-second (law (s .second) (standsAt s f) f (i .ten) (omega (arith, i .below, r)))
 
-  keeps-room : (s : Supervisor) (f : Frame) → refusalOf s (frame f) ≡ 0 → Room get (s .second) → Room get (framed s f .second)
+  keeps-room : (s : Supervisor) (f : Frame) → refusalOf s (frame f) ≡ 0 → Room each get (s .second) → Room each get (framed s f .second)
   keeps-room s f a i =
-      let r : s .second .frames .0 < 400000 = room s f a in
-      let g : get (framed s f .second) ≡ get (s .second) + flag (q (standsAt s f) f) = one-frame s f a i in
-      let n : framed s f .second .frames .0 ≡ s .second .frames .0 + 1 = rw step-second (frames-law (s .second) (standsAt s f) f r) in
-      let b : flag (q (standsAt s f) f) ≤ 1 = flag-most (q (standsAt s f) f) in
-      record { ten = rw step-second (ten-law (s .second) (standsAt s f) f (i .ten)); below = omega (arith, i .below) }
+      let g : get (framed s f .second) ≡ get (s .second) + amount (standsAt s f) f = one-frame s f a i in
+      let n : framed s f .second .frames .0 ≡ s .second .frames .0 + 1 = rw step-second (frames-law (s .second) (standsAt s f) f (room s f a)) in
+      let b = low (standsAt s f) f in
+      let m = w .grows (s .second .frames .0) in
+      record { ten = rw step-second (ten-law (s .second) (standsAt s f) f (i .ten)); below = rw n (omega (arith, i .below, g, b, m)) }
 
-  sums : (s : Supervisor) (fs : List Frame) → Accepted s (map frame fs) → Room get (s .second)
-      → get (after s (map frame fs) .second) ≡ get (s .second) + tally q s fs
-  unfolding after eventOf tally
+  sums : (s : Supervisor) (fs : List Frame) → Accepted s (map frame fs) → Room each get (s .second)
+      → get (after s (map frame fs) .second) ≡ get (s .second) + total amount s fs
+  unfolding after eventOf total
   sums s [] a i = rw add-zero
   sums s (f ∷ fs) a i = omega (arith, sums (framed s f) fs (a .1) (keeps-room s f (a .0) i), one-frame s f (a .0) i)
 
@@ -138,15 +156,58 @@ unfolding farOf
 far-more n true r = up-plain (n .0) 400000 r
 far-more n false r = rw add-zero
 
+-- a sum grows by the number of a frame whose far-end block is counted
+pub sum-more : (n : Sum) (more : ℕ) → n .0 + more ≤ 3200000 → addedTo n more .0 ≡ n .0 + more
+unfolding addedTo
+sum-more n more r = add-plain (n .0) more 3200000 r
+
+-- by the reading, and by the code: in section, path and level
+pub counted-is : (b : Bei) (far stopped : Bool) (n : ℕ) → violationsOf b ≡ cond far n 0 → countedOf b stopped ≡ cond (far && not stopped) n 0
+unfolding countedOf
+counted-is b true true n e = refl
+counted-is b true false n e = e
+counted-is b false true n e = refl
+counted-is b false false n e = e
+
+-- what is counted of a code is at least the block and at most eight
+pub counted-bounds : (code : ℕ) (stopped : Bool)
+    → Bounded (flag (farBlock code && not stopped)) (cond (farBlock code && not stopped) code 0)
+counted-bounds code stopped = by (farBlock code) stopped (same-far code .least) (same-far code .most)
+  where
+    by : (far stopped : Bool) → flag far ≤ cond far code 0 → cond far code 0 ≤ 8 * flag far → Bounded (flag (far && not stopped)) (cond (far && not stopped) code 0)
+    by true true l m = omega arith
+    by true false l m = (l, m)
+    by false stopped l m = omega arith
+
+pub counted-low : (code : ℕ) (stopped : Bool) → cond (farBlock code && not stopped) code 0 ≤ 8
+counted-low code stopped =
+    let b = counted-bounds code stopped .1 in let f = flag-most (farBlock code && not stopped) in omega (arith, b, f)
+
+-- a sum whose amount is bounded by a question in each frame is bounded by its tally
+total-bounded : (q : Question) (amount : Amount) → ((d : Standing) (f : Frame) → Bounded (flag (q d f)) (amount d f)) → (s : Supervisor) (fs : List Frame)
+    → Bounded (tally q s fs) (total amount s fs)
+unfolding total
+total-bounded q amount l s [] = omega arith
+total-bounded q amount l s (f ∷ fs) =
+    let b = total-bounded q amount l (framed s f) fs in
+    let o = l (standsAt s f) f in
+    (omega (arith, b .0, o .0), omega (arith, b .1, o .1))
+
+-- and so it is where both are discarded
+discarded-bounded : (gone : Bool) (far : Far) (sum : Sum) → Bounded (far .0) (sum .0)
+    → Bounded (cond gone (record { 0 = 0 }) far .0) (cond gone (record { 0 = 0 }) sum .0)
+discarded-bounded true far sum b = omega arith
+discarded-bounded false far sum b = b
+
 tally-every : (s : Supervisor) (fs : List Frame) → tally every s fs ≡ length fs
-unfolding tally
+unfolding total
 tally-every s [] = refl
 tally-every s (f ∷ fs) = omega (arith, tally-every (framed s f) fs)
 
 -- a question that implies one of two others is not asked oftener than both
 tally-most : (q a b : Question) → ((d : Standing) (f : Frame) → flag (q d f) ≤ flag (a d f) + flag (b d f)) → (s : Supervisor) (fs : List Frame)
     → tally q s fs ≤ tally a s fs + tally b s fs
-unfolding tally
+unfolding total
 tally-most q a b l s [] = omega arith
 tally-most q a b l s (f ∷ fs) = omega (arith, tally-most q a b l (framed s f) fs, l (standsAt s f) f)
 
@@ -176,12 +237,18 @@ zeros-at (suc n) (suc k) = zeros-at n k
 
 -- a tally from a second that begins is that of its frames
 module _ (s : Supervisor) (fresh : s .second ≡ freshSecond) (fs : List Frame) (a : Accepted s (map frame fs)) where
+  added : (each cap : ℕ) → Adds each cap → (get : Second → ℕ) (amount : Amount) → ((d : Standing) (f : Frame) → amount d f ≤ each)
+      → ((c : Second) (d : Standing) (f : Frame) → length (c .heads) ≡ 10 → get c + each ≤ cap → get (counted c d f) ≡ get c + amount d f)
+      → get freshSecond ≡ 0 → get (after s (map frame fs) .second) ≡ total amount s fs
+  added each cap w get amount low law z =
+      let e : get (s .second) ≡ 0 = rw fresh z in
+      let i : Room each get (s .second) = record { ten = ap (λ (c : Second). length (c .heads)) fresh; below = rw e zero-le } in
+      sums each cap w get amount low law s fs a i ∙ rw e (zero-add (total amount s fs))
+
   from-none : (get : Second → ℕ) (q : Question) → ((c : Second) (d : Standing) (f : Frame) → length (c .heads) ≡ 10 → get c < 400000 → get (counted c d f) ≡ get c + flag (q d f))
       → get freshSecond ≡ 0 → get (after s (map frame fs) .second) ≡ tally q s fs
   from-none get q law z =
-      let e : get (s .second) ≡ 0 = rw fresh z in
-      let i : Room get (s .second) = record { ten = ap (λ (c : Second). length (c .heads)) fresh; below = omega arith } in
-      sums get q law s fs a i ∙ rw e (zero-add (tally q s fs))
+      added 1 400000 adds-one get (λ d f. flag (q d f)) (λ d f. flag-most (q d f)) (λ c d f t r. law c d f t (omega (arith, r))) z
 
   from-nothing : (get : Second → Bool) (q : Question) → ((c : Second) (d : Standing) (f : Frame) → get (counted c d f) ≡ (get c || q d f))
       → get freshSecond ≡ false → get (after s (map frame fs) .second) ≡ some q s fs
@@ -202,7 +269,24 @@ module _ (s : Supervisor) (fresh : s .second ≡ freshSecond) (fs : List Frame) 
 
   far-is : after s (map frame fs) .second .path .far .0 ≡ tally pathFar s fs
   unfolding countOf blocksOf
-  far-is = from-none (λ c. c .path .far .0) pathFar (λ c d f _ r. far-more (c .path .far) (pathFar d f) r) refl
+  far-is =
+      from-none (λ c. c .path .far .0) pathFar
+      (λ c d f _ r.
+      far-more (c .path .far) (isFar (pathBei (overheadOf (f .overhead) .path .bei)) && not (pathDown (pathSsf d) (d .path))) r
+      ∙ ap (λ (x : Bool). c .path .far .0 + flag (x && not (pathDown (pathSsf d) (d .path)))) (same-far (overheadOf (f .overhead) .path .bei) .path-far))
+      refl
+
+  violations-is : after s (map frame fs) .second .path .sum .0 ≡ total pathViolations s fs
+  unfolding countOf blocksOf
+  violations-is =
+      added 8 3200000 adds-eight (λ c. c .path .sum .0) pathViolations (λ d f. counted-low (overheadOf (f .overhead) .path .bei) (pathDown (pathSsf d) (d .path)))
+      (λ c d f _ r.
+      let code : ℕ = overheadOf (f .overhead) .path .bei in
+      let stops : Bool = pathDown (pathSsf d) (d .path) in
+      let e = counted-is (pathBei code) (farBlock code) stops code (same-far code .path-number) in
+      let l = counted-low code stops in
+      ap (λ (n : ℕ). addedTo (c .path .sum) n .0) e ∙ sum-more (c .path .sum) (cond (farBlock code && not stops) code 0) (omega (arith, r, l)))
+      refl
 
   section-near-is : after s (map frame fs) .second .section .near .0 ≡ tally sectionNear s fs
   unfolding countOf blocksOf
@@ -210,7 +294,24 @@ module _ (s : Supervisor) (fresh : s .second ≡ freshSecond) (fs : List Frame) 
 
   section-far-is : after s (map frame fs) .second .section .far .0 ≡ tally sectionFar s fs
   unfolding countOf blocksOf
-  section-far-is = from-none (λ c. c .section .far .0) sectionFar (λ c d f _ r. far-more (c .section .far) (sectionFar d f) r) refl
+  section-far-is =
+      from-none (λ c. c .section .far .0) sectionFar
+      (λ c d f _ r.
+      far-more (c .section .far) (isFar (beiOf (overheadOf (f .overhead) .section .bei)) && not (ssfOf (d .line))) r
+      ∙ ap (λ (x : Bool). c .section .far .0 + flag (x && not (ssfOf (d .line)))) (same-far (overheadOf (f .overhead) .section .bei) .far))
+      refl
+
+  section-violations-is : after s (map frame fs) .second .section .sum .0 ≡ total sectionViolations s fs
+  unfolding countOf blocksOf
+  section-violations-is =
+      added 8 3200000 adds-eight (λ c. c .section .sum .0) sectionViolations (λ d f. counted-low (overheadOf (f .overhead) .section .bei) (ssfOf (d .line)))
+      (λ c d f _ r.
+      let code : ℕ = overheadOf (f .overhead) .section .bei in
+      let stops : Bool = ssfOf (d .line) in
+      let e = counted-is (beiOf code) (farBlock code) stops code (same-far code .number) in
+      let l = counted-low code stops in
+      ap (λ (n : ℕ). addedTo (c .section .sum) n .0) e ∙ sum-more (c .section .sum) (cond (farBlock code && not stops) code 0) (omega (arith, r, l)))
+      refl
 
   iae-is : after s (map frame fs) .second .iae ≡ some sectionIae s fs
   unfolding countOf
@@ -231,10 +332,15 @@ module _ (s : Supervisor) (fresh : s .second ≡ freshSecond) (fs : List Frame) 
     far = far-is;
     near-most = rw near-is (tally-most pathNear (under 0) (under 9) (λ d f. clear-or-nine (leb 1 (f .pm)) (pathDown (pathSsf d) (d .path)) (eqb (headOf d) 0) (eqb (headOf d) 9) (one-cause d .counted)) s fs);
     far-most = rw far-is (tally-most pathFar (under 0) (under 9) (λ d f. clear-or-nine (farBlock (overheadOf (f .overhead) .path .bei)) (pathDown (pathSsf d) (d .path)) (eqb (headOf d) 0) (eqb (headOf d) 9) (one-cause d .counted)) s fs);
+    violations = violations-is;
+    bounded = rw (far-is, violations-is) (total-bounded pathFar pathViolations (λ d f. counted-bounds (overheadOf (f .overhead) .path .bei) (pathDown (pathSsf d) (d .path))) s fs);
     neards = from-nothing (λ c. c .path .neards) pathNearDs (λ c d f. refl) refl;
     fards = from-nothing (λ c. c .path .fards) pathFarDs (λ c d f. refl) refl;
     section-near = rw (← iae-is, ← section-near-is) (cond-under (λ (n : Near). n .0) (after s (map frame fs) .second .iae) _ _);
     section-far = rw (← iae-is, ← biae-is, ← section-far-is) (cond-under (λ (n : Far). n .0) (after s (map frame fs) .second .iae || after s (map frame fs) .second .biae) _ _);
+    section-violations = rw (← iae-is, ← biae-is, ← section-violations-is) (cond-under (λ (n : Sum). n .0) (after s (map frame fs) .second .iae || after s (map frame fs) .second .biae) _ _);
+    section-bounded = discarded-bounded (after s (map frame fs) .second .iae || after s (map frame fs) .second .biae) (after s (map frame fs) .second .section .far) (after s (map frame fs) .second .section .sum)
+        (rw (section-far-is, section-violations-is) (total-bounded sectionFar sectionViolations (λ d f. counted-bounds (overheadOf (f .overhead) .section .bei) (ssfOf (d .line))) s fs));
     section-neards = rw (← iae-is, ← from-nothing (λ c. c .section .neards) sectionNearDs (λ c d f. refl) refl);
     section-fards = rw (← iae-is, ← biae-is, ← from-nothing (λ c. c .section .fards) sectionFarDs (λ c d f. refl) refl);
   }
@@ -260,7 +366,7 @@ seconds-after s [] = rw add-zero
 seconds-after s (frame f ∷ h) = seconds-after (framed s f) h
 seconds-after s (mark ∷ h) = omega (arith, seconds-after (nextSecond s) h)
 
--- the twenty figures
+-- the twenty-two figures
 figures-are : (n : ℕ) (s : Supervisor) (fs : List Frame) (c : Second) → Says s fs c → figuresOf n c ≡ lineFigures n s fs
 figures-are n s fs c y =
     simp (
@@ -279,10 +385,12 @@ figures-are n s fs c y =
       y .section-far,
       y .section-neards,
       y .section-fards,
+      y .section-violations,
       y .near,
       y .far,
       y .neards,
       y .fards,
+      y .violations,
     )
 
 -- an accepted mark's figures

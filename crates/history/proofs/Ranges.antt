@@ -11,9 +11,10 @@ use Rattle.answer.proofs.Cond.{by-cond}
 use Rattle.overhead.specs.declared.Overhead.{Overhead}
 use Rattle.overhead.specs.declared.Field.{Field}
 use Rattle.overhead.specs.Overhead.{overheadOf, fieldOf}
+use Rattle.overhead.specs.Bei.{beiOf, isFar, isBiae}
 use Rattle.filter.specs.Filter.{upOf}
 use Rattle.filter.specs.Stat.{statOf}
-use Rattle.filter.proofs.Bounds.{up-most, filter-most, stat-most}
+use Rattle.filter.proofs.Bounds.{up-most, add-most, filter-most, stat-most}
 use Rattle.alignment.specs.declared.Alignment.{Alignment}
 use Rattle.alignment.specs.declared.Framing.{Framing}
 use Rattle.alignment.specs.declared.Lof.{Lof}
@@ -25,7 +26,7 @@ use Rattle.layer.specs.Layer.{withTrace, equalOf, closedCycle, gatheredAt, byte
 use Rattle.signal.specs.Signal.{standsFor, isAis}
 use Rattle.causes.specs.Causes.{ssfOf, timActs, headOf}
 use Rattle.frame.specs.Layers.{lineOf, sectionOf, sectionStands, pathOf, layersOf, degraded}
-use Rattle.second.specs.Second.{nearOf, farOf, oneFrame, oneUnder, blocksOf, sectionShows, pathShows, countOf, freshSecond}
+use Rattle.second.specs.Second.{nearOf, farOf, sumOf, countedOf, oneFrame, oneUnder, blocksOf, sectionShows, pathShows, countOf, freshSecond}
 use Rattle.supervisor.specs.Supervisor.{freshOf, frameOf, standsAfter, nextSecond}
 use Rattle.history.specs.Ranges.{AlignmentIn, LayerIn, SectionIn, PathIn, LayersIn, BlocksIn, AllAtMost, IsBytes, SecondIn, Ranged}
 use Rattle.causes.specs.declared.Standing.{Standing}
@@ -165,7 +166,7 @@ section-in s p ssf m f i =
     record {
       layer = layer-in (s .layer) ssf (m .inmulti) (m .number) (f .tti) (f .bdi) (i .layer);
       iae = filter-most (s .iae) 5 4 x (f .iae) (omega arith);
-      biae = filter-most (s .biae) 3 2 x (eqb (f .bei) 11) (omega arith);
+      biae = filter-most (s .biae) 3 2 x (isBiae (beiOf (f .bei))) (omega arith);
     }
 
 path-in : (s : PathState) (ssf : Bool) (m : Multi) (f : Field) → f .stat ≤ 7 → PathIn s → PathIn (pathOf s ssf m f)
@@ -204,10 +205,11 @@ at-most-at n (y ∷ l) zero x h a = (h, a .1)
 at-most-at n (y ∷ l) (suc i) x h a = (a .0, at-most-at n l i x h (a .1))
 
 pub blocks-in : (b : Blocks) (s : Shows) → BlocksIn b → BlocksIn (blocksOf b s)
-unfolding blocksOf nearOf farOf
+unfolding blocksOf nearOf farOf sumOf
 blocks-in b s i = record {
   near = by-cond (λ (x : Near). x .0 ≤ 400000) (s .near && _) (λ _. up-most (b .near .0) 400000) (λ _. i .near);
-  far = by-cond (λ (x : Far). x .0 ≤ 400000) (s .far && _) (λ _. up-most (b .far .0) 400000) (λ _. i .far);
+  far = by-cond (λ (x : Far). x .0 ≤ 400000) (isFar (s .far) && _) (λ _. up-most (b .far .0) 400000) (λ _. i .far);
+  sum = add-most (b .sum .0) (countedOf (s .far) (s .stopped)) 3200000;
 }
 
 under-in : (heads : List ℕ) (h : ℕ) → length heads ≡ 10 → AllAtMost 400000 heads → (length (oneUnder heads h) ≡ 10) × AllAtMost 400000 (oneUnder heads h)
@@ -252,8 +254,8 @@ fresh-second-in = record {
   frames = omega arith;
   ten = refl;
   heads = omega arith;
-  section = record { near = omega arith; far = omega arith };
-  path = record { near = omega arith; far = omega arith };
+  section = record { near = omega arith; far = omega arith; sum = omega arith };
+  path = record { near = omega arith; far = omega arith; sum = omega arith };
 }
 
 pub degraded-in : (l : Layer) (p : Options) (near : ℕ) → p .degm ≤ 10 → LayerIn l → LayerIn (degraded l p near)

@@ -6,7 +6,8 @@ use mathlib.Core.List.{List, [], _∷_, _++_}
 use lib.Dec.{eqb, T}
 use lib.ListN.{replicate}
 use Rattle.overhead.specs.Overhead.{threeOf, fourOf, fieldOf, overheadOf, farBlock}
-use Rattle.filter.specs.Filter.{upOf, filterOf}
+use Rattle.overhead.specs.Bei.{pathBei, beiOf}
+use Rattle.filter.specs.Filter.{upOf, addOf, filterOf}
 use Rattle.filter.specs.Stat.{inRow, statOf}
 use Rattle.alignment.specs.Alignment.{framesOf, framingOf, lofOf, nextOf, multiOf, lomOf, alignOf}
 use Rattle.names.specs.Names.{same, sameIn, sameTrace, comparedOf}
@@ -14,7 +15,7 @@ use Rattle.layer.specs.Layer.{equalOf, closedCycle, byteOf, traceOf, layerOf, t
 use Rattle.signal.specs.Signal.{signalOf, standsFor, isAis}
 use Rattle.causes.specs.Causes.{ssfOf, timActs, headOf, reportOf, noReport}
 use Rattle.frame.specs.Layers.{lineOf, sectionOf, sectionStands, pathOf, pathStands, layersOf, standingOf}
-use Rattle.second.specs.Second.{nearOf, farOf, oneFrame, oneUnder, blocksOf, countOf, discardOf, closedOf}
+use Rattle.second.specs.Second.{nearOf, farOf, sumOf, countedOf, oneFrame, oneUnder, blocksOf, countOf, discardOf, closedOf}
 use Rattle.supervisor.specs.Supervisor.{freshOf, stepRefusal, standsAfter, frameOf, stepOf, nextSecond, markOf}
 use Rattle.history.specs.History.{Event, frame, mark}
 use Rattle.causes.specs.declared.Report.{Report}
@@ -83,6 +84,10 @@ zeros flags sm = sent (replicate 64 0) flags sm 0
 abbrev good : ℕ → ℕ → ℕ → ℕ → List Event
 good zero m section path = []
 good (suc n) m section path = sent (overhead fas (m % 256) 0 section 0 path) 0 0 0 ∷ good n (m + 1) section path
+
+-- one of BEI 8 in both layers, with flags 1
+abbrev failing : ℕ → Event
+failing m = sent (overhead fas m 0 0x80 0 0x80) 1 0 0
 
 -- (c): framing and MFAS for three frames
 abbrev c3 : List Event
@@ -181,7 +186,17 @@ rows =
     ∷ row plain (c3 ++ good 3 3 0xB0 0) (λ x. biae x)
     -- the page's example: two frames with flags 1, a mark
     ∷ row plain (zeros 1 0 ∷ zeros 1 0 ∷ mark ∷ [])
-    (λ x. same (x .figures) (1 ∷ 2 ∷ 0 ∷ 2 ∷ 0 ∷ 0 ∷ 0 ∷ 0 ∷ 0 ∷ 0 ∷ 0 ∷ 0 ∷ 0 ∷ 0 ∷ 1 ∷ 0 ∷ 0 ∷ 0 ∷ 1 ∷ 0 ∷ []))
+    (λ x. same (x .figures) (1 ∷ 2 ∷ 0 ∷ 2 ∷ 0 ∷ 0 ∷ 0 ∷ 0 ∷ 0 ∷ 0 ∷ 0 ∷ 0 ∷ 0 ∷ 0 ∷ 1 ∷ 0 ∷ 0 ∷ 0 ∷ 0 ∷ 1 ∷ 0 ∷ 0 ∷ []))
+    -- BEI 8, 1, 2, 9, 11, 0 and 15 in both layers: three blocks, and eleven violations (document 02, K7)
+    ∷ row plain
+    (good 1 0 0x80 0x80 ++ (good 1 1 0x10 0x10 ++ (good 1 2 0x20 0x20 ++ (good 1 3 0x90 0x90 ++ (good 1 4 0xB0 0xB0 ++ (good 1 5 0 0 ++ (good 1 6 0xF0 0xF0 ++ (mark ∷ []))))))))
+    (λ x. same (x .figures) (1 ∷ 7 ∷ 7 ∷ 0 ∷ 0 ∷ 0 ∷ 0 ∷ 0 ∷ 0 ∷ 0 ∷ 0 ∷ 0 ∷ 0 ∷ 3 ∷ 0 ∷ 0 ∷ 11 ∷ 0 ∷ 3 ∷ 0 ∷ 0 ∷ 11 ∷ []))
+    -- three frames of BEI 8, and two more with flags 1: the sum is stopped as the far blocks are
+    ∷ row plain (good 3 0 0x80 0x80 ++ (failing 3 ∷ failing 4 ∷ mark ∷ []))
+    (λ x. same (x .figures) (1 ∷ 5 ∷ 3 ∷ 2 ∷ 0 ∷ 0 ∷ 0 ∷ 0 ∷ 0 ∷ 0 ∷ 0 ∷ 0 ∷ 0 ∷ 3 ∷ 1 ∷ 0 ∷ 24 ∷ 0 ∷ 3 ∷ 1 ∷ 0 ∷ 24 ∷ []))
+    -- BEI 5 and three of 1011: the section's far values are discarded by dBIAE; in the path 1011 is none
+    ∷ row plain (good 1 0 0x50 0x50 ++ (good 3 1 0xB0 0xB0 ++ (mark ∷ [])))
+    (λ x. same (x .figures) (1 ∷ 4 ∷ 4 ∷ 0 ∷ 0 ∷ 0 ∷ 0 ∷ 0 ∷ 0 ∷ 0 ∷ 0 ∷ 0 ∷ 0 ∷ 0 ∷ 0 ∷ 0 ∷ 0 ∷ 0 ∷ 1 ∷ 0 ∷ 0 ∷ 5 ∷ []))
     -- dLOM after 62 frames in OOM, most of them in IF with MFAS standing still, and not after 61
     ∷ row plain (times 61 (sent (overhead fas 0 0 0 0 0) 0 0 0)) (λ x. inFrame x && not (lom x) && head 0 x)
     ∷ row plain (times 62 (sent (overhead fas 0 0 0 0 0) 0 0 0)) (λ x. lom x && head 4 x)
@@ -213,7 +228,7 @@ start p = record { supervisor = freshOf p; refusal = 0; report = noReport; figur
 
 -- the definitions that a row computes with are opened here alone
 unfoldable pub holds : Row → Bool
-unfolding seenAfter stepOf stepRefusal standsAfter frameOf nextSecond markOf noReport reportOf headOf ssfOf timActs lineOf sectionOf sectionStands pathOf pathStands layersOf standingOf nearOf farOf oneFrame oneUnder blocksOf countOf discardOf closedOf threeOf fourOf fieldOf overheadOf farBlock upOf filterOf inRow statOf framesOf framingOf lofOf nextOf multiOf lomOf alignOf same sameIn sameTrace equalOf closedCycle byteOf traceOf layerOf comparedOf timOf signalOf standsFor
+unfolding seenAfter stepOf stepRefusal standsAfter frameOf nextSecond markOf noReport reportOf headOf ssfOf timActs lineOf sectionOf sectionStands pathOf pathStands layersOf standingOf nearOf farOf sumOf countedOf oneFrame oneUnder blocksOf countOf discardOf closedOf threeOf fourOf fieldOf overheadOf farBlock pathBei beiOf upOf addOf filterOf inRow statOf framesOf framingOf lofOf nextOf multiOf lomOf alignOf same sameIn sameTrace equalOf closedCycle byteOf traceOf layerOf comparedOf timOf signalOf standsFor
 holds r = (r .shows) (seenAfter (start (r .settings)) (r .acts))
 
 unfoldable pub allHold : List Row → Bool

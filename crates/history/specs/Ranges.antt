@@ -52,6 +52,7 @@ pub record LayersIn (l : Layers) : Type 0 where
 pub record BlocksIn (b : Blocks) : Type 0 where
   pub near : b .near .0 ≤ 400000
   pub far : b .far .0 ≤ 400000
+  pub sum : b .sum .0 ≤ 3200000
 
 -- each number of a list is at most n
 abbrev pub AllAtMost : ℕ → List ℕ → Type 0

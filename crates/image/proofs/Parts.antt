@@ -35,6 +35,7 @@ pub record Layered (greatest w : List ℕ) : Type 0 where
   pub degm : 2 ≤ getD w 4 0
   pub thr-least : 1 ≤ wordAt w 0
   pub thr : wordAt w 0 ≤ 329492
+  pub sum : wordAt w 52 ≤ 3200000
   pub near : wordAt w 56 ≤ 400000
   pub far : wordAt w 60 ≤ 400000
 
@@ -60,19 +61,22 @@ layered g w e =
     let b = leb 2 (getD w 4 0) in
     let c = leb 1 (wordAt w 0) in
     let d = leb (wordAt w 0) 329492 in
+    let s = leb (wordAt w 52) 3200000 in
     let n = leb (wordAt w 56) 400000 in
     let f = leb (wordAt w 60) 400000 in
-    let e1 = and-right a (b && (c && (d && (n && f)))) e in
-    let e2 = and-right b (c && (d && (n && f))) e1 in
-    let e3 = and-right c (d && (n && f)) e2 in
-    let e4 = and-right d (n && f) e3 in
+    let e1 = and-right a (b && (c && (d && (s && (n && f))))) e in
+    let e2 = and-right b (c && (d && (s && (n && f)))) e1 in
+    let e3 = and-right c (d && (s && (n && f))) e2 in
+    let e4 = and-right d (s && (n && f)) e3 in
+    let e5 = and-right s (n && f) e4 in
     record {
-      bytes = and-left a (b && (c && (d && (n && f)))) e;
-      degm = leb-true 2 (getD w 4 0) (and-left b (c && (d && (n && f))) e1);
-      thr-least = leb-true 1 (wordAt w 0) (and-left c (d && (n && f)) e2);
-      thr = leb-true (wordAt w 0) 329492 (and-left d (n && f) e3);
-      near = leb-true (wordAt w 56) 400000 (and-left n f e4);
-      far = leb-true (wordAt w 60) 400000 (and-right n f e4);
+      bytes = and-left a (b && (c && (d && (s && (n && f))))) e;
+      degm = leb-true 2 (getD w 4 0) (and-left b (c && (d && (s && (n && f)))) e1);
+      thr-least = leb-true 1 (wordAt w 0) (and-left c (d && (s && (n && f))) e2);
+      thr = leb-true (wordAt w 0) 329492 (and-left d (s && (n && f)) e3);
+      sum = leb-true (wordAt w 52) 3200000 (and-left s (n && f) e4);
+      near = leb-true (wordAt w 56) 400000 (and-left n f e5);
+      far = leb-true (wordAt w 60) 400000 (and-right n f e5);
     }
 
 lined : (w c : List ℕ) → lineRanged w c ≡ true → Lined w c
@@ -177,10 +181,10 @@ abbrev pub frontGreatest : List ℕ
 frontGreatest = replicate 4 255 ++ (10 ∷ 3 ∷ 1 ∷ 1 ∷ 9 ∷ replicate 23 0)
 
 abbrev pub sectionState : List ℕ
-sectionState = 1 ∷ 1 ∷ 3 ∷ 1 ∷ 4 ∷ 1 ∷ 4 ∷ 1 ∷ 2 ∷ 0 ∷ 0 ∷ 0 ∷ 0 ∷ 1 ∷ 1 ∷ 1 ∷ 1 ∷ (replicate 7 0 ++ replicate 8 255)
+sectionState = 1 ∷ 1 ∷ 3 ∷ 1 ∷ 4 ∷ 1 ∷ 4 ∷ 1 ∷ 2 ∷ 0 ∷ 0 ∷ 0 ∷ 0 ∷ 1 ∷ 1 ∷ 1 ∷ 1 ∷ (replicate 3 0 ++ replicate 12 255)
 
 abbrev pub pathState : List ℕ
-pathState = 1 ∷ 1 ∷ 3 ∷ 1 ∷ 4 ∷ 0 ∷ 0 ∷ 0 ∷ 0 ∷ 7 ∷ 3 ∷ 1 ∷ 7 ∷ 1 ∷ 1 ∷ 0 ∷ 0 ∷ (replicate 7 0 ++ replicate 8 255)
+pathState = 1 ∷ 1 ∷ 3 ∷ 1 ∷ 4 ∷ 0 ∷ 0 ∷ 0 ∷ 0 ∷ 7 ∷ 3 ∷ 1 ∷ 7 ∷ 1 ∷ 1 ∷ 0 ∷ 0 ∷ (replicate 3 0 ++ replicate 12 255)
 
 wider : (wide g w : List ℕ) → below wide g ≡ true → Tops g w → Tops wide w
 wider wide g w t f = λ (i : ℕ). omega (arith, f i, below-all wide g t i)

@@ -90,6 +90,7 @@ module _ (o : ℕ) (st l : List ℕ) (h : o + 288 ≤ length l) (t : Layered (fr
       record {
         near = omega (arith, word-rest x (bytesIn 64 o l) 24 e, t .near);
         far = omega (arith, word-rest x (bytesIn 64 o l) 28 e, t .far);
+        sum = omega (arith, word-rest x (bytesIn 64 o l) 20 e, t .sum);
       }
 
 untested-of : (l : List ℕ) → sound l ≡ true → Ranged (loadOf l)
@@ -224,6 +225,8 @@ layer-tested p l t st i j b e =
       word-back (p .thr) (omega arith),
       le-leb 1 (p .thr) (i .thr-least),
       le-leb (p .thr) 329492 (i .thr),
+      word-back (t .blocks .sum .0) (omega arith),
+      le-leb (t .blocks .sum .0) 3200000 (b .sum),
       word-back (t .blocks .near .0) (omega arith),
       le-leb (t .blocks .near .0) 400000 (b .near),
       word-back (t .blocks .far .0) (omega arith),
@@ -345,6 +348,7 @@ module _ (s : Supervisor) (r : Ranged s) where
         stat = omega arith;
         near = omega arith;
         far = omega arith;
+        sum = omega arith;
       } in
       ap heldIn (part-at 3) ∙ held-back (sectionHeld s) f t (held-sized (sectionHeld s) (arrays .section))
 
@@ -359,6 +363,7 @@ module _ (s : Supervisor) (r : Ranged s) where
         stat = omega arith;
         near = omega arith;
         far = omega arith;
+        sum = omega arith;
       } in
       ap heldIn (part-at 4) ∙ held-back (pathHeld s) f t (held-sized (pathHeld s) (arrays .path))
 

@@ -3,18 +3,18 @@ use mathlib.Core.Path.{_≡_, refl}
 use mathlib.Core.Bool.{Bool, true, false, _||_}
 use Rattle.second.specs.Second.{discardOf}
 use Rattle.second.specs.declared.Blocks.{Blocks}
-use Rattle.late.specs.Late.{voidFour, fourBy, SameDiscard, EverySameDiscard}
+use Rattle.late.specs.Late.{voidFive, fiveBy, SameDiscard, EverySameDiscard}
 use Rattle.late.specs.declared.Erred.{Erred}
 
-values : (b : Blocks) (i j : Bool) → voidFour (record { iae = i; biae = j }) (fourBy b) ≡ fourBy (discardOf b i j)
-unfolding voidFour discardOf
+values : (b : Blocks) (i j : Bool) → voidFive (record { iae = i; biae = j }) (fiveBy b) ≡ fiveBy (discardOf b i j)
+unfolding voidFive discardOf
 values b true j = refl
 values b false true = refl
 values b false false = refl
 
 twice : (b : Blocks) (i j k l : Bool)
-    → voidFour (record { iae = k; biae = l }) (voidFour (record { iae = i; biae = j }) (fourBy b)) ≡ fourBy (discardOf b (i || k) (j || l))
-unfolding voidFour discardOf
+    → voidFive (record { iae = k; biae = l }) (voidFive (record { iae = i; biae = j }) (fiveBy b)) ≡ fiveBy (discardOf b (i || k) (j || l))
+unfolding voidFive discardOf
 twice b true j true l = refl
 twice b true j false true = refl
 twice b true j false false = refl

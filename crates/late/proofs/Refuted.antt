@@ -11,7 +11,7 @@ use borrow.Fn.Kinds.{Dens, endedOf}
 use denote.Triple.Clauses.{AtExit}
 use Rattle.answer.proofs.Cond.{by-cond, not-so}
 use Rattle.tandem.specs.Tandem.{markedOf}
-use Rattle.late.specs.Late.{voidFour, voidLevels, voided, pendingOf, lateMarked}
+use Rattle.late.specs.Late.{voidFive, voidLevels, voided, pendingOf, lateMarked}
 use Rattle.late.specs.declared.Late.{Late}
 use Rattle.late.specs.declared.LateMarked.{LateMarked}
 use Rattle.late.specs.declared.PendingSecond.{PendingSecond}
@@ -31,9 +31,15 @@ fresh-frame κs a x s one e = let z : _≡_ {A = ℕ} 1 0 = sym one ∙ ap (λ (
 
 -- void: dIAE in the section keeps none of its near-end blocks
 pub near-kept : (κs : Lfts 0) (a : Dens κs void-kinds.ps) (x : List ℕ) (s : AtExit (endedOf 0 void-kinds.ps void-kinds.r) κs)
-    → a .0 ≡ replicate 43 1 → a .1 .0 ≡ record { iae = true; biae = false } → getD x 11 0 ≡ 1 → void-reads.Post κs a x s → ⊥
-unfolding voided voidFour
+    → a .0 ≡ replicate 51 1 → a .1 .0 ≡ record { iae = true; biae = false } → getD x 11 0 ≡ 1 → void-reads.Post κs a x s → ⊥
+unfolding voided voidFive
 near-kept κs a x s v section one e = let z : _≡_ {A = ℕ} 1 0 = sym one ∙ ap (λ (l : List ℕ). getD l 11 0) (rw (v, section) at e) in omega arith
+
+-- and dBIAE none of its sum
+pub sum-kept : (κs : Lfts 0) (a : Dens κs void-kinds.ps) (x : List ℕ) (s : AtExit (endedOf 0 void-kinds.ps void-kinds.r) κs)
+    → a .0 ≡ replicate 51 1 → a .1 .0 ≡ record { iae = false; biae = true } → getD x 15 0 ≡ 1 → void-reads.Post κs a x s → ⊥
+unfolding voided voidFive
+sum-kept κs a x s v section one e = let z : _≡_ {A = ℕ} 1 0 = sym one ∙ ap (λ (l : List ℕ). getD l 15 0) (rw (v, section) at e) in omega arith
 
 -- pending: its number is that of the seconds closed, and not of the open one
 pub open-number : (κs : Lfts 0) (a : Dens κs pending-kinds.ps) (x : PendingSecond) (s : AtExit (endedOf 0 pending-kinds.ps pending-kinds.r) κs)

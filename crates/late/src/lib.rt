@@ -7,13 +7,13 @@ ghost use mathlib.Core.List.{_∷_, map};
 ghost use Prim.Native.Nat.{_+_, _≤_};
 ghost use lib.ListN.{length, take, drop};
 ghost use Rattle.answer.specs.Over.{over};
-ghost use Rattle.late.specs.Late.{freshLate, levelErred, voidFour, voided, pendingOf, lateMarked};
+ghost use Rattle.late.specs.Late.{freshLate, levelErred, voidFive, voided, pendingOf, lateMarked};
 
-// The supervisor with levels, and the figures of the second that was closed last, behind its number: frames, ten heads, the section's four, the path's four,
-// four of each level.
+// The supervisor with levels, and the figures of the second that was closed last, behind its number: frames, ten heads, the section's five, the path's five,
+// five of each level.
 pub struct Late {
     pub tandem: Tandem,
-    pub pending: [u32; 43],
+    pub pending: [u32; 51],
 }
 
 // pIAE and pBIAE of a layer's second: whether dIAE and dBIAE stood in some frame of it.
@@ -26,14 +26,14 @@ pub struct Erred {
 pub struct LateMarked {
     pub refusal: u8,
     pub told: bool,
-    pub figures: [u32; 44],
+    pub figures: [u32; 52],
     pub late: Late,
 }
 
 // Where a second is pending, it is `told`, and its figures.
 pub struct PendingSecond {
     pub told: bool,
-    pub figures: [u32; 44],
+    pub figures: [u32; 52],
 }
 
 // No second is pending.
@@ -42,7 +42,7 @@ pub fn fresh_late(t: Tandem) -> Late
 {
     Late {
         tandem: t,
-        pending: [0; 43],
+        pending: [0; 51],
     }
 }
 
@@ -56,51 +56,53 @@ fn kept(x: u32, gone: bool) -> u32
     x
 }
 
-// A layer's four figures from a place on, discarded.
+// A layer's five figures from a place on, discarded.
 fn void_at(v: &mut [u32], at: usize, e: Erred)
-    requires { ⌜ at + 4 ≤ length (now v) ⌝ }
-    ensures { λ _. ⌜ now (v .exit) ≡ over (now (v .entry)) at (voidFour e (take 4 (drop at (now (v .entry))))) ⌝ }
+    requires { ⌜ at + 5 ≤ length (now v) ⌝ }
+    ensures { λ _. ⌜ now (v .exit) ≡ over (now (v .entry)) at (voidFive e (take 5 (drop at (now (v .entry))))) ⌝ }
 {
     let near = kept(v[at], e.iae);
     let far = kept(v[at + 1], e.iae | e.biae);
     let neards = kept(v[at + 2], e.iae);
     let fards = kept(v[at + 3], e.iae | e.biae);
+    let sum = kept(v[at + 4], e.iae | e.biae);
     v[at] = near;
     v[at + 1] = far;
     v[at + 2] = neards;
     v[at + 3] = fards;
+    v[at + 4] = sum;
 }
 
 // The figures of a second, the section's and each level's discarded.
-pub fn void(v: [u32; 43], section: Erred, levels: [Erred; 6]) -> [u32; 43]
+pub fn void(v: [u32; 51], section: Erred, levels: [Erred; 6]) -> [u32; 51]
     ensures { λ r. ⌜ r ≡ voided section levels v ⌝ }
 {
     let mut n = v;
     void_at(&mut n, 11, section);
     for i in 0..6 {
         let e = levels[i];
-        void_at(&mut n, 19 + 4 * i, e);
+        void_at(&mut n, 21 + 5 * i, e);
     }
     n
 }
 
 // A number, and figures behind it.
-fn numbered(number: u32, v: [u32; 43]) -> [u32; 44]
+fn numbered(number: u32, v: [u32; 51]) -> [u32; 52]
     ensures { λ r. ⌜ r ≡ number ∷ v ⌝ }
 {
-    let mut out = [number; 44];
-    for i in 0..43 {
+    let mut out = [number; 52];
+    for i in 0..51 {
         out[i + 1] = v[i];
     }
     out
 }
 
 // The figures behind a number.
-fn behind(figures: [u32; 44]) -> [u32; 43]
+fn behind(figures: [u32; 52]) -> [u32; 51]
     ensures { λ r. ⌜ r ≡ drop 1 figures ⌝ }
 {
-    let mut out = [0u32; 43];
-    for i in 0..43 {
+    let mut out = [0u32; 51];
+    for i in 0..51 {
         out[i] = figures[i + 1];
     }
     out
@@ -178,7 +180,7 @@ pub fn mark(s: Late) -> LateMarked
     LateMarked {
         refusal: a.refusal,
         told: false,
-        figures: [0; 44],
+        figures: [0; 52],
         late: s,
     }
 }

@@ -3,8 +3,8 @@ use mathlib.Core.Path.{_≡_, refl}
 use mathlib.Core.Bool.{Bool, true, false, _||_, or-true, and-false, false≢true}
 use mathlib.Core.List.{List, [], _∷_}
 use Prim.Native.Nat.{ℕ}
-use lib.Dec.{eqb}
 use Rattle.overhead.specs.declared.Field.{Field}
+use Rattle.overhead.specs.Bei.{beiOf, isBiae}
 use Rattle.filter.specs.declared.Filter.{Filter}
 use Rattle.filter.specs.Filter.{filterOf}
 use Rattle.filter.specs.Stat.{statOf}
@@ -66,11 +66,11 @@ module _ (s : LevelState) (p : Options) (m : Multi) (f : Field) where
       let o = ais-alone (status ssf) e in
       let tim = no-tim (s .layer) (forget ssf) (m .inmulti) (m .number) (f .tti) (f .bdi) (p .mode) (p .names) g in
       let bdi = no-bdi (s .layer) (forget ssf) (m .inmulti) (m .number) (f .tti) (f .bdi) g in
-      (o .0, (o .1 .0, (o .1 .1 .0, (tim, (bdi, (rw (o .1 .1 .1 .0), (no-filter (s .biae) 3 _ (eqb (f .bei) 11) (rw g), tt)))))))
+      (o .0, (o .1 .0, (o .1 .1 .0, (tim, (bdi, (rw (o .1 .1 .1 .0), (no-filter (s .biae) 3 _ (isBiae (beiOf (f .bei))) (rw g), tt)))))))
 
   during-tim : (ssf : Bool) → after ssf .tim ≡ true → AllFalse (falseInTim (after ssf))
   unfolding levelOf standsBy
-  during-tim ssf e = (rw e (and-false (raisesIae (status ssf))), (no-filter (s .biae) 3 _ (eqb (f .bei) 11) (rw e (or-true (forget ssf))), tt))
+  during-tim ssf e = (rw e (and-false (raisesIae (status ssf))), (no-filter (s .biae) 3 _ (isBiae (beiOf (f .bei))) (rw e (or-true (forget ssf))), tt))
 
 pub each-frame : EachFrame
 unfolding standsBy

@@ -4,8 +4,8 @@ use mathlib.Core.Bool.{Bool, true, false, not, _&&_, _||_}
 use mathlib.Core.List.{List, [], _∷_, map}
 use Prim.Native.Nat.{ℕ, _+_, _≤_}
 use lib.ListN.{replicate}
+use Rattle.answer.specs.Among.{among}
 use Rattle.answer.specs.Bits.{flag}
-use Rattle.signal.specs.Signal.{among}
 use Rattle.overhead.specs.declared.Field.{Field}
 use Rattle.alignment.specs.declared.Multi.{Multi}
 use Rattle.settings.specs.declared.Options.{Options}

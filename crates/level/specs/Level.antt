@@ -2,9 +2,9 @@
 -- and of other levels it is handed nothing: SSF, the multiframe, its own three bytes and its own violation count. Assumes nothing.
 use Prim.Native.Nat.{ℕ}
 use mathlib.Core.Bool.{Bool, false, not, _&&_, _||_}
-use lib.Dec.{leb, eqb}
+use lib.Dec.{leb}
 use Rattle.overhead.specs.declared.Field.{Field}
-use Rattle.overhead.specs.Overhead.{farBlock}
+use Rattle.overhead.specs.Bei.{beiOf, isBiae}
 use Rattle.filter.specs.declared.Stat.{Stat}
 use Rattle.filter.specs.Filter.{quiet, filterOf}
 use Rattle.filter.specs.Stat.{noStat, statOf}
@@ -34,7 +34,7 @@ levelOf s p ssf m f =
     let forget : Bool = ssf || raisesAis (statusFor t) in
     let l : Layer = layerOf (s .layer) forget (m .inmulti) (m .number) (f .tti) (f .bdi) in
     let dTIM : Bool = timOf l (p .mode) (p .names) in
-    record { layer = l; stat = t; biae = filterOf (s .biae) 3 (forget || dTIM) (eqb (f .bei) 11) }
+    record { layer = l; stat = t; biae = filterOf (s .biae) 3 (forget || dTIM) (isBiae (beiOf (f .bei))) }
 
 -- The defects, where dTIM is known. dIAE is the accepted STAT 010 (6.2.6.10.2), and false during CI_SSF, dAIS and dTIM: in SSF no STAT is accepted, and
 -- 111 is not 010, so dTIM alone is left to mask it. The STAT stays, and so dIAE stands again in the frame in which dTIM ends.
@@ -98,7 +98,7 @@ abbrev pub levelShows : LevelStands → ℕ → ℕ → Shows
 levelShows d bei violations = record {
   stopped = levelDown d;
   near = leb 1 violations;
-  far = farBlock bei;
+  far = beiOf bei;
   neards = levelDown d || d .tim;
   fards = d .bdi;
 }

@@ -2,8 +2,8 @@
 use Prim.Native.Nat.{ℕ}
 use mathlib.Core.Bool.{Bool, true, false, cond}
 use mathlib.Core.List.{List, [], _∷_}
+use Rattle.answer.specs.Among.{among}
 use Rattle.filter.specs.declared.Stat.{Stat}
-use Rattle.signal.specs.Signal.{among}
 use Rattle.level.specs.declared.Status.{Status}
 use Rattle.level.specs.declared.Raises.{Raises}
 use Rattle.level.specs.declared.Status.the-variants.{Clear, Ltc, Iae, Lck, Oci, Ais}

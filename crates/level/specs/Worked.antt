@@ -74,8 +74,8 @@ abbrev pub backward : List Handed
 backward = replicate 5 (handed 8 true 1) ++ replicate 3 (handed 11 true 1)
 
 -- the values of a second
-abbrev pub valuesAre : ℕ → ℕ → Bool → Bool → Blocks
-valuesAre near far neards fards = record { near = record { 0 = near }; far = record { 0 = far }; neards = neards; fards = fards }
+abbrev pub valuesAre : ℕ → ℕ → Bool → Bool → ℕ → Blocks
+valuesAre near far neards fards sum = record { near = record { 0 = near }; far = record { 0 = far }; neards = neards; fards = fards; sum = record { 0 = sum } }
 
 -- what stands after each frame, and the second, in trace mode 0
 abbrev pub fromFresh : List Handed → List LevelStands
@@ -87,18 +87,18 @@ wholeSecond l = countEach unnamed freshLevel freshLevelSecond l
 pub record LevelWorked : Type 0 where
   -- 000 raises dLTC at the third frame, and the first two are counted
   pub ltc : map dLTC (fromFresh (replicate 5 (plain 0))) ≡ false ∷ false ∷ replicate 3 true
-  pub ltc-second : levelClosed (wholeSecond (replicate 5 (plain 0))) ≡ valuesAre 2 0 true false
+  pub ltc-second : levelClosed (wholeSecond (replicate 5 (plain 0))) ≡ valuesAre 2 0 true false 0
   -- SSF in frames 6 and 7 forgets STAT: dLTC again from frame 10
   pub ltc-again : map dLTC (fromFresh (replicate 5 (plain 0) ++ (replicate 2 inSsf ++ replicate 5 (plain 0))))
       ≡ replicate 2 false ++ (replicate 3 true ++ (replicate 4 false ++ replicate 3 true))
   -- dIAE in frames 6 to 8, and the second is discarded
   pub iae : map (λ (d : LevelStands). d .iae) (fromFresh misaligned) ≡ replicate 5 false ++ (replicate 3 true ++ (false ∷ []))
-  pub iae-blocks : wholeSecond misaligned .blocks ≡ valuesAre 9 3 false false
+  pub iae-blocks : wholeSecond misaligned .blocks ≡ valuesAre 9 3 false false 3
   pub iae-second : levelClosed (wholeSecond misaligned) ≡ noBlocks
   -- dBIAE at the third 1011: the far values alone are discarded
   pub biae : map (λ (d : LevelStands). d .biae) (fromFresh backward) ≡ replicate 7 false ++ (true ∷ [])
-  pub biae-blocks : wholeSecond backward .blocks ≡ valuesAre 8 5 false true
-  pub biae-second : levelClosed (wholeSecond backward) ≡ valuesAre 8 0 false false
+  pub biae-blocks : wholeSecond backward .blocks ≡ valuesAre 8 5 false true 40
+  pub biae-second : levelClosed (wholeSecond backward) ≡ valuesAre 8 0 false false 0
   -- dIAE from frame 3 to 193; dTIM in frame 194 masks it and gives cTIM, whether it acts or not; aTSF stands where it acts
   pub tim-iae : (disabled : Bool) → map (λ (d : LevelStands). d .iae) (cycled disabled) ≡ replicate 2 false ++ (replicate 191 true ++ (false ∷ []))
   pub tim-cause : (disabled : Bool) → map (λ (d : LevelStands). levelCauses d .tim) (cycled disabled) ≡ replicate 193 false ++ (true ∷ [])

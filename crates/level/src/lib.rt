@@ -9,6 +9,7 @@ use second::Blocks;
 use second::Far;
 use second::Near;
 use second::Shows;
+use second::Sum;
 use settings::Options;
 ghost use mathlib.Core.Path.{_≡_};
 ghost use Rattle.level.specs.Status.{statusOf, statusFor, raisesOf};
@@ -75,7 +76,7 @@ pub struct LevelCauses {
     pub bdi: bool,
 }
 
-// The open second: its four values, and whether dIAE and dBIAE stood in some frame.
+// The open second: its five values, and whether dIAE and dBIAE stood in some frame.
 pub struct LevelSecond {
     pub blocks: Blocks,
     pub iae: bool,
@@ -199,7 +200,9 @@ pub fn level_step(s: LevelState, p: Options, ssf: bool, m: Multi, f: Field) -> L
     let forget = ssf | raises.ais;
     let layer = layer::layer_step(l, forget, m.inmulti, m.number, f.tti, f.bdi);
     let tim = layer::tim(layer, p.mode, names);
-    let biae = filter::filter_step(b, 3, forget | tim, f.bei == 11);
+    let read = overhead::bei_of(f.bei);
+    let mark = overhead::is_mark(read);
+    let biae = filter::filter_step(b, 3, forget | tim, mark);
     let state = LevelState {
         layer: layer,
         stat: stat,
@@ -255,7 +258,7 @@ pub fn level_shows(d: LevelStands, bei: u8, violations: u8) -> Shows
     ensures { λ r. ⌜ r ≡ levelShows d bei violations ⌝ }
 {
     let fails = down(d);
-    let far = overhead::far_block(bei);
+    let far = overhead::bei_of(bei);
     Shows {
         stopped: fails,
         near: 1 <= violations,
@@ -279,7 +282,7 @@ pub fn level_count(c: LevelSecond, d: LevelStands, bei: u8, violations: u8) -> L
     }
 }
 
-// The four values of the second as it is closed.
+// The five values of the second as it is closed.
 pub fn level_closed(c: LevelSecond) -> Blocks
     ensures { λ r. ⌜ r ≡ levelClosed c ⌝ }
 {
@@ -326,6 +329,7 @@ pub fn fresh_level_second() -> LevelSecond
             far: Far(0),
             neards: false,
             fards: false,
+            sum: Sum(0),
         },
         iae: false,
         biae: false,

@@ -15,9 +15,9 @@ use Rattle.trace.specs.declared.State.{State}
 use Rattle.stream.specs.Stream.{second, lastListed}
 use Rattle.lines.specs.Line.{lineBy, openAfter, reportedText, openedBy}
 
-module _ (ls : List Level) (v : List ℕ) (h : 20 ≤ length v) where
-  pub listed-at : (i : ℕ) → i < 20 → getD (listedOf ls v) i 0 ≡ getD v i 0
-  listed-at i k = List·getD-append (take 20 v) (givenGroups ls (drop 20 v)) 0 i (omega (arith, length-take-le 20 v h)) ∙ getD-take 20 v i 0 k
+module _ (ls : List Level) (v : List ℕ) (h : 22 ≤ length v) where
+  pub listed-at : (i : ℕ) → i < 22 → getD (listedOf ls v) i 0 ≡ getD v i 0
+  listed-at i k = List·getD-append (take 22 v) (givenGroups ls (drop 22 v)) 0 i (omega (arith, length-take-le 22 v h)) ∙ getD-take 22 v i 0 k
 
   listed-second : secondOf (listedOf ls v) ≡ secondOf v
   unfolding secondOf
@@ -43,6 +43,8 @@ module _ (ls : List Level) (v : List ℕ) (h : 20 ≤ length v) where
         listed-at 17 (omega arith),
         listed-at 18 (omega arith),
         listed-at 19 (omega arith),
+        listed-at 20 (omega arith),
+        listed-at 21 (omega arith),
       )
 
   pub listed-with : (b : Bins) → binsWith b (listedOf ls v) ≡ binsWith b v
@@ -50,7 +52,7 @@ module _ (ls : List Level) (v : List ℕ) (h : 20 ≤ length v) where
   listed-with b = rw listed-second
 
 -- by the figures of its line, and by all its figures
-module _ (b : Bins) (st : State) (h : length (st .last) ≡ 44) where
+module _ (b : Bins) (st : State) (h : length (st .last) ≡ 52) where
   abbrev ls : List Level
   ls = st .sup .tandem .levels
 

@@ -34,7 +34,7 @@ use Rattle.lines.proofs.last_lines.Reads as last-reads
 use Rattle.lines.proofs.told_line.Kinds as told-kinds
 use Rattle.lines.proofs.told_line.Reads as told-reads
 use Rattle.bins.specs.Bins.{binsWith, openedOf}
-use Rattle.summary.specs.Summary.{fourGood, headsGood, validOf, followsOn, joinRefusal, joinOf, addedOf, secondOf}
+use Rattle.summary.specs.Summary.{fiveGood, headsGood, validOf, followsOn, joinRefusal, joinOf, addedOf, secondOf}
 use Rattle.lines.proofs.open_after.Kinds as open-kinds
 use Rattle.lines.proofs.open_after.Reads as open-reads
 
@@ -83,19 +83,19 @@ second-from-0 κs a x s h p z =
     let e : _≡_ {A = ℕ} 48 49 = sym z ∙ ap (λ (o : List ℕ). getD o 2 0) (p .2 ∙ ap (over d 0) f) ∙ first-second d in
     omega arith
 
--- reported_lines: twenty figures of one digit make 42 bytes; with those of six levels that are not provisioned they would be 90
+-- reported_lines: twenty-two figures of one digit make 46 bytes; with those of six levels that are not provisioned they would be 106
 pub all-listed : (κs : Lfts 1) (a : Dens κs reported-kinds.ps) (s : AtExit (endedOf 1 reported-kinds.ps reported-kinds.r) κs)
-    → a .0 ≡ false → a .1 .1 .0 ≡ startOf → now (a .1 .1 .1 .0) ≡ replicate 928 0 → a .1 .1 .1 .1 .0 ≡ 0 → reported-reads.Post κs a 90 s → ⊥
+    → a .0 ≡ false → a .1 .1 .0 ≡ startOf → now (a .1 .1 .1 .0) ≡ replicate 1094 0 → a .1 .1 .1 .1 .0 ≡ 0 → reported-reads.Post κs a 106 s → ⊥
 unfolding fitted lineBy lineFor givenGroups textLine fieldsOf spaced decimalIn
 all-listed κs a s office st d at p =
-    let h : _≡_ {A = ℕ} 90 42 = rw (office, st, d, at) at (p .0) in
+    let h : _≡_ {A = ℕ} 106 46 = rw (office, st, d, at) at (p .0) in
     omega arith
 
 nothing-put : (long at : ℕ) (done office : Bool) (b : Bins) (st : State) (refusal offset frames : ℕ) → done ≡ false
-    → length (fitted long at 1944 (endingOf done office b st refusal offset frames)) ≡ 0
+    → length (fitted long at 2276 (endingOf done office b st refusal offset frames)) ≡ 0
 unfolding fitted
 nothing-put long at done office b st refusal offset frames e =
-    rw e (by-cond (λ (l : List ℕ). length l ≡ 0) (leb 1944 (long - at)) (λ _. refl) (λ _. refl))
+    rw e (by-cond (λ (l : List ℕ). length l ≡ 0) (leb 2276 (long - at)) (λ _. refl) (λ _. refl))
 
 -- last_lines: before the output is whole no last line is put
 pub last-too-early : (κs : Lfts 1) (a : Dens κs last-kinds.ps) (s : AtExit (endedOf 1 last-kinds.ps last-kinds.r) κs)
@@ -126,19 +126,19 @@ unfolding over lastLines pendingLine secondLines pendingOf endLines givenGroups 
 first-letter d = refl
 
 -- the pending second is printed before R
-pub refusal-first : (κs : Lfts 1) (a : Dens κs last-kinds.ps) (x : ℕ) (s : AtExit (endedOf 1 last-kinds.ps last-kinds.r) κs) → 1944 ≤ length (now (a .1 .1 .1 .1 .1 .1 .1 .0))
+pub refusal-first : (κs : Lfts 1) (a : Dens κs last-kinds.ps) (x : ℕ) (s : AtExit (endedOf 1 last-kinds.ps last-kinds.r) κs) → 2276 ≤ length (now (a .1 .1 .1 .1 .1 .1 .1 .0))
     → last-reads.Post κs (true, (false, (noBins, (one-closed, (16, (0, (0, (a .1 .1 .1 .1 .1 .1 .1 .0, (0, tt))))))))) x s → getD (now (s .1 .1 .1 .1 .1 .1 .1 .0)) 0 0 ≡ 82 → ⊥
 refusal-first κs a x s h p z =
     let d : List ℕ = now (a .1 .1 .1 .1 .1 .1 .1 .0) in
     let l : List ℕ = endingOf true false noBins one-closed 16 0 0 in
-    let f : fitted (length d) 0 1944 l ≡ l = fitted-is (length d) 0 1944 l (omega arith) in
+    let f : fitted (length d) 0 2276 l ≡ l = fitted-is (length d) 0 2276 l (omega arith) in
     let e : _≡_ {A = ℕ} 82 83 = sym z ∙ ap (λ (o : List ℕ). getD o 0 0) (p .1 ∙ ap (over d 0) f) ∙ first-letter d in
     omega arith
 
 -- open_after: second 5 is in the quarter-hour that is open after it
 pub not-joined : (κs : Lfts 0) (a : Dens κs open-kinds.ps) (x : Bins) (s : AtExit (endedOf 0 open-kinds.ps open-kinds.r) κs)
-    → a .0 ≡ noBins → a .1 .0 .last ≡ 5 ∷ replicate 43 0 → x .quarter .length ≡ 0 → open-reads.Post κs a x s → ⊥
-unfolding openedOf binsWith joinOf joinRefusal addedOf secondOf validOf followsOn headsGood fourGood
+    → a .0 ≡ noBins → a .1 .0 .last ≡ 5 ∷ replicate 51 0 → x .quarter .length ≡ 0 → open-reads.Post κs a x s → ⊥
+unfolding openedOf binsWith joinOf joinRefusal addedOf secondOf validOf followsOn headsGood fiveGood
 not-joined κs a x s none last zero e =
     let z : _≡_ {A = ℕ} 0 1 = sym zero ∙ rw (none, last) at (ap (λ (b : Bins). b .quarter .length) e) in
     omega arith

@@ -63,7 +63,7 @@ unfoldable pub openOver : Bins → List Note → Bins
 openOver b [] = b
 openOver b (n ∷ ns) = openOver (openAfter b n) ns
 
--- the same of the second that was reported last, by its forty-four figures: a line has the first twenty of them, and a summary takes no other
+-- the same of the second that was reported last, by its fifty-two figures: a line has the first twenty-two of them, and a summary takes no other
 abbrev pub closedText : Bins → State → List ℕ
 closedText b st = closedLines (binsWith b (st .last)) (getD (st .last) 0 0)
 
@@ -93,4 +93,4 @@ endingOf done office b st refusal offset frames = cond done (lastLines office b 
 
 -- the room that they are given: the lines of two seconds, and two lines of 44 bytes at most
 abbrev pub lastRoom : ℕ
-lastRoom = 1944
+lastRoom = 2276

@@ -48,8 +48,8 @@ pub fn told_line(was: State, is: State, total: u64, out: &mut [u8], at: usize) -
     )
 }
 
-// Puts the line of a second at a place: of its figures the twenty and the four of each provisioned level; where out has not the room, nothing.
-fn listed_line(levels: [Level; 6], second: [u32; 44], out: &mut [u8], at: usize) -> usize
+// Puts the line of a second at a place: of its figures the twenty-two and the five of each provisioned level; where out has not the room, nothing.
+fn listed_line(levels: [Level; 6], second: [u32; 52], out: &mut [u8], at: usize) -> usize
     ensures { λ r. ⌜ (r ≡ at + length (fitted (length (now (out .entry))) at secondRoom (secondLine (listedOf levels second)))) × (r ≤ at + secondRoom) × (now (out .exit) ≡ over (now (out .entry)) at (fitted (length (now (out .entry))) at secondRoom (secondLine (listedOf levels second)))) ⌝ }
 {
     let listed = tandem::listed_figures(levels, second);
@@ -110,9 +110,9 @@ fn pending_line(st: State, out: &mut [u8], at: usize) -> usize
 }
 
 // Puts the lines of what a last second closes, and of what is open then.
-fn last_closed(b: Bins, f: [u32; 44], out: &mut [u8], at: usize) -> usize
-    requires { ⌜ at + 1856 ≤ length (now out) ⌝ }
-    ensures { λ r. ⌜ (r ≡ at + length (lastClosed b f)) × (r ≤ at + 1856) × (now (out .exit) ≡ over (now (out .entry)) at (lastClosed b f)) ⌝ }
+fn last_closed(b: Bins, f: [u32; 52], out: &mut [u8], at: usize) -> usize
+    requires { ⌜ at + 2188 ≤ length (now out) ⌝ }
+    ensures { λ r. ⌜ (r ≡ at + length (lastClosed b f)) × (r ≤ at + 2188) × (now (out .exit) ≡ over (now (out .entry)) at (lastClosed b f)) ⌝ }
 {
     let with = bins::bins_with(b, f);
     let p = bins::closed_lines(with, f[0], out, at);
@@ -122,8 +122,8 @@ fn last_closed(b: Bins, f: [u32; 44], out: &mut [u8], at: usize) -> usize
 
 // Puts for the office the lines of what the pending second, if there is one, closes, and of what is open then.
 fn office_end(b: Bins, st: State, out: &mut [u8], at: usize) -> usize
-    requires { ⌜ at + 1856 ≤ length (now out) ⌝ }
-    ensures { λ r. ⌜ (r ≡ at + length (officeEnd b st)) × (r ≤ at + 1856) × (now (out .exit) ≡ over (now (out .entry)) at (officeEnd b st)) ⌝ }
+    requires { ⌜ at + 2188 ≤ length (now out) ⌝ }
+    ensures { λ r. ⌜ (r ≡ at + length (officeEnd b st)) × (r ≤ at + 2188) × (now (out .exit) ≡ over (now (out .entry)) at (officeEnd b st)) ⌝ }
 {
     let sup = st.sup;
     let p = late::pending(sup);
@@ -136,8 +136,8 @@ fn office_end(b: Bins, st: State, out: &mut [u8], at: usize) -> usize
 
 // Puts what is told at the end: of the pending second, and for the office of what is open.
 fn end_text(office: bool, b: Bins, st: State, out: &mut [u8], at: usize) -> usize
-    requires { ⌜ at + 1856 ≤ length (now out) ⌝ }
-    ensures { λ r. ⌜ (r ≡ at + length (endText office b st)) × (r ≤ at + 1856) × (now (out .exit) ≡ over (now (out .entry)) at (endText office b st)) ⌝ }
+    requires { ⌜ at + 2188 ≤ length (now out) ⌝ }
+    ensures { λ r. ⌜ (r ≡ at + length (endText office b st)) × (r ≤ at + 2188) × (now (out .exit) ≡ over (now (out .entry)) at (endText office b st)) ⌝ }
 {
     if office {
         return office_end(b, st, out, at);
@@ -169,7 +169,7 @@ fn finish(
     out: &mut [u8],
     at: usize,
 ) -> usize
-    requires { ⌜ at + 1944 ≤ length (now out) ⌝ }
+    requires { ⌜ at + 2276 ≤ length (now out) ⌝ }
     ensures { λ n. ⌜ (n ≡ at + length (endingOf done office b st refusal offset frames)) × (now (out .exit) ≡ over (now (out .entry)) at (endingOf done office b st refusal offset frames)) ⌝ }
 {
     if done {
@@ -193,10 +193,10 @@ pub fn last_lines(
 ) -> usize
     ensures { λ r. ⌜ (r ≡ at + length (fitted (length (now (out .entry))) at lastRoom (endingOf done office b st refusal offset frames))) × (now (out .exit) ≡ over (now (out .entry)) at (fitted (length (now (out .entry))) at lastRoom (endingOf done office b st refusal offset frames))) ⌝ }
 {
-    if out.len() < 1944 {
+    if out.len() < 2276 {
         return at;
     }
-    if out.len() - 1944 < at {
+    if out.len() - 2276 < at {
         return at;
     }
     finish(done, office, b, st, refusal, offset, frames, out, at)

@@ -51,19 +51,19 @@ start-without-blanks κs a s letter ns d at p =
     let h : _≡_ {A = ℕ} 5 8 = rw (letter, ns, d, at) at (p .0) in
     omega arith
 
--- twenty figures of one digit make 42 bytes: with one figure less they would be 40, with those of one level 50
+-- 22 figures of one digit make 46 bytes: with one figure less they would be 44, with those of one level 56
 pub second-short : (κs : Lfts 1) (a : Dens κs second-kinds.ps) (s : AtExit (endedOf 1 second-kinds.ps second-kinds.r) κs)
-    → a .0 ≡ replicate 44 1 → a .1 .0 ≡ 20 → now (a .1 .1 .0) ≡ replicate 928 0 → a .1 .1 .1 .0 ≡ 0 → second-reads.Post κs a 40 s → ⊥
+    → a .0 ≡ replicate 52 1 → a .1 .0 ≡ 22 → now (a .1 .1 .0) ≡ replicate 1094 0 → a .1 .1 .1 .0 ≡ 0 → second-reads.Post κs a 44 s → ⊥
 unfolding fitted textLine fieldsOf spaced decimalIn
 second-short κs a s figures n d at p =
-    let h : _≡_ {A = ℕ} 40 42 = rw (figures, n, d, at) at (p .0) in
+    let h : _≡_ {A = ℕ} 44 46 = rw (figures, n, d, at) at (p .0) in
     omega arith
 
 pub second-long : (κs : Lfts 1) (a : Dens κs second-kinds.ps) (s : AtExit (endedOf 1 second-kinds.ps second-kinds.r) κs)
-    → a .0 ≡ replicate 44 1 → a .1 .0 ≡ 20 → now (a .1 .1 .0) ≡ replicate 928 0 → a .1 .1 .1 .0 ≡ 0 → second-reads.Post κs a 50 s → ⊥
+    → a .0 ≡ replicate 52 1 → a .1 .0 ≡ 22 → now (a .1 .1 .0) ≡ replicate 1094 0 → a .1 .1 .1 .0 ≡ 0 → second-reads.Post κs a 56 s → ⊥
 unfolding fitted textLine fieldsOf spaced decimalIn
 second-long κs a s figures n d at p =
-    let h : _≡_ {A = ℕ} 50 42 = rw (figures, n, d, at) at (p .0) in
+    let h : _≡_ {A = ℕ} 56 46 = rw (figures, n, d, at) at (p .0) in
     omega arith
 
 -- a refusal prints its number and then the offset
@@ -86,10 +86,10 @@ frames-first κs a r s marks frames d at o p =
     let h : _≡_ {A = ℕ} 50 49 = ap (λ (l : List ℕ). getD l 2 0) (sym o ∙ e) in
     omega arith
 
--- bin_line: twenty-one figures of one digit and a number make 46 bytes, and not 44
+-- bin_line: 23 figures of one digit and a number make 50 bytes, and not 48
 pub bin-without-number : (κs : Lfts 1) (a : Dens κs bin-kinds.ps) (s : AtExit (endedOf 1 bin-kinds.ps bin-kinds.r) κs)
-    → a .1 .0 ≡ 0 → a .1 .1 .0 ≡ replicate 21 1 → now (a .1 .1 .1 .0) ≡ replicate 464 0 → a .1 .1 .1 .1 .0 ≡ 0 → bin-reads.Post κs a 44 s → ⊥
+    → a .1 .0 ≡ 0 → a .1 .1 .0 ≡ replicate 23 1 → now (a .1 .1 .1 .0) ≡ replicate 506 0 → a .1 .1 .1 .1 .0 ≡ 0 → bin-reads.Post κs a 48 s → ⊥
 unfolding fitted textLine fieldsOf spaced decimalIn
 bin-without-number κs a s number ns d at p =
-    let h : _≡_ {A = ℕ} 44 46 = rw (number, ns, d, at) at (p .0) in
+    let h : _≡_ {A = ℕ} 48 50 = rw (number, ns, d, at) at (p .0) in
     omega arith

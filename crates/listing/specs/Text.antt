@@ -30,7 +30,7 @@ unfoldable pub textLine : ℕ → List ℕ → List ℕ
 textLine letter ns = lineStart letter ns ++ (10 ∷ [])
 
 -- "S: second from 1, frames, heads 0 to 9, section near blocks, far blocks, near DS, far DS, then the path's four." "Each S line gains the four
--- figures of every provisioned level, lowest level first." (document 02, K1)
+-- figures of every provisioned level, lowest level first." (document 02, K1) "The sum comes last in each layer's group of S fields." (document 02, K7)
 abbrev pub secondLine : List ℕ → List ℕ
 secondLine figures = textLine 83 figures
 
@@ -54,14 +54,14 @@ numberRoom = 20
 abbrev pub startRoom : ℕ
 startRoom = 64
 
--- the room that the lines of a reported second are given: two bytes for a line, and 21 for each number, of which the line of a second has 44 at most, and those of a
--- quarter-hour and a day together 44 (document 02, K6)
+-- the room that the lines of a reported second are given: two bytes for a line, and 21 for each number, of which the line of a second has 52 at most, and those of a
+-- quarter-hour and a day together 48 (document 02, K6 and K7)
 abbrev pub secondRoom : ℕ
-secondRoom = 928
+secondRoom = 1094
 
--- the line of a quarter-hour or a day by itself has 22
+-- the line of a quarter-hour or a day by itself has 24
 abbrev pub binRoom : ℕ
-binRoom = 464
+binRoom = 506
 
 abbrev pub pairRoom : ℕ
 pairRoom = 44

@@ -109,11 +109,11 @@ fn put_line(letter: u8, ns: &[u64], out: &mut [u8], at: usize) -> usize
 }
 
 // The figures of a second as they are put.
-fn widened(figures: [u32; 44]) -> [u64; 44]
+fn widened(figures: [u32; 52]) -> [u64; 52]
     ensures { λ r. ⌜ r ≡ figures ⌝ }
 {
-    let mut ns = [0u64; 44];
-    for i in 0..44 {
+    let mut ns = [0u64; 52];
+    for i in 0..52 {
         ns[i] = wide(figures[i]);
     }
     ns
@@ -121,13 +121,13 @@ fn widened(figures: [u32; 44]) -> [u64; 44]
 
 // Puts the line of a closed second, of the first n of its figures (all of them where n is more), at a place and answers the place after it. Where
 // there is less room than `secondRoom`, it puts nothing.
-pub fn second_line(figures: [u32; 44], n: usize, out: &mut [u8], at: usize) -> usize
+pub fn second_line(figures: [u32; 52], n: usize, out: &mut [u8], at: usize) -> usize
     ensures { λ r. ⌜ (r ≡ at + length (fitted (length (now (out .entry))) at secondRoom (secondLine (take n figures)))) × (r ≤ at + secondRoom) × (now (out .exit) ≡ over (now (out .entry)) at (fitted (length (now (out .entry))) at secondRoom (secondLine (take n figures)))) ⌝ }
 {
     let free = room(out.len(), at);
-    if 928 <= free {
+    if 1094 <= free {
         let ns = widened(figures);
-        if n < 44 {
+        if n < 52 {
             return put_line(b'S', &ns[0..n], out, at);
         }
         return put_line(b'S', &ns, out, at);
@@ -135,7 +135,7 @@ pub fn second_line(figures: [u32; 44], n: usize, out: &mut [u8], at: usize) -> u
     at
 }
 
-// A line of a number and of twenty-one behind it.
+// A line of a number and of others behind it.
 fn put_numbered(letter: u8, number: u64, ns: &[u64], out: &mut [u8], at: usize) -> usize
     requires { ⌜ at + (23 + 21 * length (now ns)) ≤ length (now out) ⌝ }
     ensures { λ r. ⌜ Wrote (23 + 21 * length (now (ns .entry))) (now (out .entry)) at r (now (out .exit)) (textLine letter (number ∷ now (ns .entry))) ⌝ }
@@ -147,11 +147,11 @@ fn put_numbered(letter: u8, number: u64, ns: &[u64], out: &mut [u8], at: usize) 
 }
 
 // Puts the line of a quarter-hour or a day, of its letter, its number and its summary's, as `second_line` does.
-pub fn bin_line(letter: u8, number: u64, ns: [u64; 21], out: &mut [u8], at: usize) -> usize
+pub fn bin_line(letter: u8, number: u64, ns: [u64; 23], out: &mut [u8], at: usize) -> usize
     ensures { λ r. ⌜ (r ≡ at + length (fitted (length (now (out .entry))) at binRoom (textLine letter (number ∷ ns)))) × (r ≤ at + binRoom) × (now (out .exit) ≡ over (now (out .entry)) at (fitted (length (now (out .entry))) at binRoom (textLine letter (number ∷ ns)))) ⌝ }
 {
     let free = room(out.len(), at);
-    if 464 <= free {
+    if 506 <= free {
         return put_numbered(letter, number, &ns, out, at);
     }
     at

@@ -27,6 +27,6 @@ tells n failed figures x = x .report .causes .section .tim && cond failed (x .re
 -- it gave head 5, and gives 0 now; cTIM and the section's near DS are told in both, the path's near DS is not any more
 pub record Differs : Type 0 where
   pub before : T (holds (row (settingsBefore mistyped) (traced 194 254 zeroth 0 ++ (mark ∷ []))
-      (tells 5 true (1 ∷ 194 ∷ 193 ∷ 0 ∷ 0 ∷ 0 ∷ 0 ∷ 1 ∷ 0 ∷ 0 ∷ 0 ∷ 0 ∷ 0 ∷ 0 ∷ 1 ∷ 0 ∷ 0 ∷ 0 ∷ 1 ∷ 0 ∷ []))))
+      (tells 5 true (1 ∷ 194 ∷ 193 ∷ 0 ∷ 0 ∷ 0 ∷ 0 ∷ 1 ∷ 0 ∷ 0 ∷ 0 ∷ 0 ∷ 0 ∷ 0 ∷ 1 ∷ 0 ∷ 0 ∷ 0 ∷ 0 ∷ 1 ∷ 0 ∷ 0 ∷ []))))
   pub now : T (holds (row (settingsBy mistyped) (traced 194 254 zeroth 0 ++ (mark ∷ []))
-      (tells 0 false (1 ∷ 194 ∷ 194 ∷ 0 ∷ 0 ∷ 0 ∷ 0 ∷ 0 ∷ 0 ∷ 0 ∷ 0 ∷ 0 ∷ 0 ∷ 0 ∷ 1 ∷ 0 ∷ 0 ∷ 0 ∷ 0 ∷ 0 ∷ []))))
+      (tells 0 false (1 ∷ 194 ∷ 194 ∷ 0 ∷ 0 ∷ 0 ∷ 0 ∷ 0 ∷ 0 ∷ 0 ∷ 0 ∷ 0 ∷ 0 ∷ 0 ∷ 1 ∷ 0 ∷ 0 ∷ 0 ∷ 0 ∷ 0 ∷ 0 ∷ 0 ∷ []))))

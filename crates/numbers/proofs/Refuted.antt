@@ -77,3 +77,10 @@ pub far-for-near : (x : State) → x .blocks .near .0 ≡ 1
 far-for-near x w s e =
     let z : _≡_ {A = ℕ} 1 0 = sym w ∙ ap (λ (t : State). t .blocks .near .0) e in
     omega arith
+
+-- state_in: the sum has a word of its own, before the near-end blocks
+pub sum-for-near : (x : State) → x .blocks .near .0 ≡ 1
+    → NoAnswer state-in-kinds.ps state-in-kinds.r state-in-reads.Post (replicate 20 0 ++ (1 ∷ replicate 11 0), tt) x
+sum-for-near x w s e =
+    let z : _≡_ {A = ℕ} 1 0 = sym w ∙ ap (λ (t : State). t .blocks .near .0) e in
+    omega arith

@@ -52,6 +52,7 @@ pub record StateFits (s : State) : Type 0 where
   pub stat : s .stat .run < 256
   pub near : s .blocks .near .0 < 4294967296
   pub far : s .blocks .far .0 < 4294967296
+  pub sum : s .blocks .sum .0 < 4294967296
 
 -- They are read back.
 
@@ -83,6 +84,7 @@ state-back s f =
       byte (s .stat .run) (f .stat),
       word-back (s .blocks .near .0) (f .near),
       word-back (s .blocks .far .0) (f .far),
+      word-back (s .blocks .sum .0) (f .sum),
     )
 
 -- A list, element by element.
@@ -143,7 +145,7 @@ frontTop = replicate 6 255 ++ (1 ∷ 1 ∷ 255 ∷ replicate 23 0)
 
 abbrev pub stateTop : List ℕ
 stateTop =
-    1 ∷ 1 ∷ 255 ∷ 1 ∷ 255 ∷ 1 ∷ 255 ∷ 1 ∷ 255 ∷ 255 ∷ 255 ∷ 1 ∷ 255 ∷ 1 ∷ 1 ∷ 1 ∷ 1 ∷ (replicate 7 0 ++ replicate 8 255)
+    1 ∷ 1 ∷ 255 ∷ 1 ∷ 255 ∷ 1 ∷ 255 ∷ 1 ∷ 255 ∷ 255 ∷ 255 ∷ 1 ∷ 255 ∷ 1 ∷ 1 ∷ 1 ∷ 1 ∷ (replicate 3 0 ++ replicate 12 255)
 
 -- Bytes that hold to them stay.
 
@@ -197,7 +199,8 @@ front-stays w e t =
 
 pub state-stays : (w : List ℕ) → length w ≡ 32 → Tops stateTop w → stateBytes (stateIn w) ≡ w
 state-stays w e t =
-    let z : replicate 7 0 ≡ from 17 7 w = zeros stateTop w 17 7 t refl in
+    let z : replicate 3 0 ≡ from 17 3 w = zeros stateTop w 17 3 t refl in
+    let sum : le4 (wordAt w 20) ≡ from 20 4 w = word-from w 20 (t 20) (t 21) (t 22) (t 23) in
     let near : le4 (wordAt w 24) ≡ from 24 4 w = word-from w 24 (t 24) (t 25) (t 26) (t 27) in
     let far : le4 (wordAt w 28) ≡ from 28 4 w = word-from w 28 (t 28) (t 29) (t 30) (t 31) in
     cons2 (flag-stays (getD w 0 0) (t 0))
@@ -216,7 +219,7 @@ state-stays w e t =
     (cons2 (flag-stays (getD w 13 0) (t 13))
     (cons2 (flag-stays (getD w 14 0) (t 14))
     (cons2 (flag-stays (getD w 15 0) (t 15))
-    (cons2 (flag-stays (getD w 16 0) (t 16)) (both z (both near far)))))))))))))))))) ∙ from-all 32 w e
+    (cons2 (flag-stays (getD w 16 0) (t 16)) (both z (both sum (both near far))))))))))))))))))) ∙ from-all 32 w e
 
 -- A whole record, its six parts at their places.
 

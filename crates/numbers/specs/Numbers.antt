@@ -68,10 +68,16 @@ stateBytes s =
     ∷ flag (s .bdi .on) ∷ low (s .bdi .run) ∷ flag (s .iae .on) ∷ low (s .iae .run) ∷ flag (s .biae .on) ∷ low (s .biae .run)
     ∷ s .stat .value ∷ low (s .stat .run) ∷ flag (s .stat .known) ∷ s .stat .accepted
     ∷ flag (s .blocks .neards) ∷ flag (s .blocks .fards) ∷ flag (s .iaeseen) ∷ flag (s .biaeseen)
-    ∷ (replicate 7 0 ++ (le4 (s .blocks .near .0) ++ le4 (s .blocks .far .0)))
+    ∷ (replicate 3 0 ++ (le4 (s .blocks .sum .0) ++ (le4 (s .blocks .near .0) ++ le4 (s .blocks .far .0))))
 
 abbrev pub blocksIn : List ℕ → Blocks
-blocksIn w = record { near = record { 0 = wordAt w 24 }; far = record { 0 = wordAt w 28 }; neards = on (getD w 13 0); fards = on (getD w 14 0) }
+blocksIn w = record {
+  near = record { 0 = wordAt w 24 };
+  far = record { 0 = wordAt w 28 };
+  neards = on (getD w 13 0);
+  fards = on (getD w 14 0);
+  sum = record { 0 = wordAt w 20 };
+}
 
 abbrev pub stateIn : List ℕ → State
 stateIn w = record {

@@ -9,6 +9,7 @@ use filter::Stat;
 use second::Blocks;
 use second::Far;
 use second::Near;
+use second::Sum;
 use words::word_of;
 ghost use mathlib.Core.Path.{_≡_};
 ghost use Rattle.numbers.specs.Numbers.{headBytes, headIn, alignBytes, alignIn, frontBytes, frontIn, stateBytes, blocksIn, stateIn};
@@ -220,6 +221,7 @@ pub fn front_in(w: [u8; 32]) -> Front
 pub fn state_bytes(s: State) -> [u8; 32]
     ensures { λ r. ⌜ r ≡ stateBytes s ⌝ }
 {
+    let sum = s.blocks.sum.0;
     let near = s.blocks.near.0;
     let far = s.blocks.far.0;
     [
@@ -243,10 +245,10 @@ pub fn state_bytes(s: State) -> [u8; 32]
         0,
         0,
         0,
-        0,
-        0,
-        0,
-        0,
+        (sum % 256) as u8,
+        (sum / 256 % 256) as u8,
+        (sum / 65536 % 256) as u8,
+        (sum / 16777216 % 256) as u8,
         (near % 256) as u8,
         (near / 256 % 256) as u8,
         (near / 65536 % 256) as u8,
@@ -261,6 +263,7 @@ pub fn state_bytes(s: State) -> [u8; 32]
 fn blocks_of(w: [u8; 32]) -> Blocks
     ensures { λ r. ⌜ r ≡ blocksIn w ⌝ }
 {
+    let sum = word_of(w[20], w[21], w[22], w[23]);
     let near = word_of(w[24], w[25], w[26], w[27]);
     let far = word_of(w[28], w[29], w[30], w[31]);
     Blocks {
@@ -268,6 +271,7 @@ fn blocks_of(w: [u8; 32]) -> Blocks
         far: Far(far),
         neards: w[13] == 1,
         fards: w[14] == 1,
+        sum: Sum(sum),
     }
 }
 

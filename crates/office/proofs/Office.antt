@@ -5,14 +5,14 @@ use mathlib.Core.Bool.{Bool, true, false, cond}
 use mathlib.Core.List.{List, [], _∷_, _++_, map, map-append, append-assoc, append-nil}
 use native.Mathlib.Omega.{arith}
 use lib.Dec.{eqb}
-use lib.ListN.{length, getD, take, drop}
+use lib.ListN.{length, getD}
 use Rattle.summary.specs.Summary.{secondOf}
-use Rattle.summary.specs.Stretch.{summaryOf, SecondIn, Numbered}
+use Rattle.summary.specs.Stretch.{summaryOf, LayerIn, SecondIn, Numbered}
 use Rattle.summary.proofs.Stretch.{second-alone}
 use Rattle.settings.specs.Ranges.{SettingsIn}
 use Rattle.settings.specs.declared.Settings.{Settings}
 use Rattle.supervisor.specs.Supervisor.{freshOf}
-use Rattle.tandem.specs.Levels.{listedOf, givenGroups}
+use Rattle.tandem.specs.Levels.{listedOf}
 use Rattle.tandem.specs.Tandem.{freshTandem}
 use Rattle.tandem.specs.declared.Level.{Level}
 use Rattle.watch.specs.Watch.{LevelCall, AllTaken, eventsAmong}
@@ -31,7 +31,7 @@ use Rattle.stream.specs.Counts.{Counted}
 use Rattle.stream.proofs.Counts.{start-counted, comes}
 use Rattle.stream.proofs.Figures.{Comes, since, never, read, reader-demand-3}
 use Rattle.stretch.specs.Stretches.{secondsFrom}
-use Rattle.stretch.proofs.Figures.{fourteen, fifteen, eighteen, nineteen}
+use Rattle.stretch.proofs.Figures.{fourteen, fifteen, nineteen, twenty}
 use Rattle.stretch.proofs.Stretches.{up-to, last-is, numbered, second-in}
 use Rattle.lines.specs.Line.{lineBy, openAfter, linesOf, openOver, officeEnd, lastClosed, lastLines, endLines}
 use Rattle.lines.proofs.Offices.{listed-at, listed-with}
@@ -67,75 +67,57 @@ only-over (ys ∷ rs) at n st = by (eqb (t .refusal) 0) (only-over rs (at + size
     by false h = refl
 
 -- The end of a scan: the pending second as one that is told, and the lines of what is open then.
-end-is : (b : Bins) (ls : List Level) (t : Bool) (v : List ℕ) → 20 ≤ length v
+end-is : (b : Bins) (ls : List Level) (t : Bool) (v : List ℕ) → 22 ≤ length v
     → cond t (lastClosed b v) (restLines b)
     ≡ linesOf true b (map second (map (listedOf ls) (cond t (v ∷ []) []))) ++ restLines (openOver b (map second (map (listedOf ls) (cond t (v ∷ []) []))))
 unfolding linesOf openOver lineBy openAfter
 end-is b ls true v h = rw (listed-with ls v h b, listed-at ls v h 0 (omega arith), append-nil)
 end-is b ls false v h = refl
 
-office-end : (b : Bins) (st : State) → length (st .sup .pending) ≡ 43
+office-end : (b : Bins) (st : State) → length (st .sup .pending) ≡ 51
     → officeEnd b st ≡ linesOf true b (map second (pendingListed st)) ++ restLines (openOver b (map second (pendingListed st)))
 unfolding pendingOf
 office-end b st h = end-is b (st .sup .tandem .levels) (pendingOf (st .sup) .told) (pendingOf (st .sup) .figures) (omega (arith, h))
 
 -- Figures that are listed keep their bounds.
-abbrev Low : List ℕ → Type 0
-Low l = (i : ℕ) → getD l i 0 ≤ 400000
+module _ (ls : List Level) (f : List ℕ) (long : 22 ≤ length f) where
+  listed-most : (most i : ℕ) → i < 22 → getD f i 0 ≤ most → getD (listedOf ls f) i 0 ≤ most
+  listed-most most i l h = omega (arith, listed-at ls f long i l, h)
 
-low-append : (a b : List ℕ) → Low a → Low b → Low (a ++ b)
-low-append [] b h k i = k i
-low-append (x ∷ a) b h k zero = h 0
-low-append (x ∷ a) b h k (suc i) = low-append a b (λ j. h (suc j)) k i
+  layer-in : (i : ℕ) → i + 4 < 22 → LayerIn f i → LayerIn (listedOf ls f) i
+  layer-in i l h = record {
+    near = listed-most 400000 i (omega arith) (h .near);
+    far = listed-most 400000 (i + 1) (omega arith) (h .far);
+    sum = listed-most 3200000 (i + 4) l (h .sum);
+  }
 
-low-none : Low []
-low-none i = omega arith
-
-low-take : (n : ℕ) (l : List ℕ) → Low l → Low (take n l)
-low-take zero l h i = omega arith
-low-take (suc n) [] h i = omega arith
-low-take (suc n) (x ∷ l) h zero = h 0
-low-take (suc n) (x ∷ l) h (suc i) = low-take n l (λ j. h (suc j)) i
-
-low-drop : (n : ℕ) (l : List ℕ) → Low l → Low (drop n l)
-low-drop zero l h = h
-low-drop (suc n) [] h = h
-low-drop (suc n) (x ∷ l) h = low-drop n l (λ j. h (suc j))
-
-low-if : (b : Bool) (l : List ℕ) → Low l → Low (cond b l [])
-low-if true l h = h
-low-if false l h = low-none
-
-low-groups : (ls : List Level) (v : List ℕ) → Low v → Low (givenGroups ls v)
-unfolding givenGroups
-low-groups [] v h = low-none
-low-groups (l ∷ ls) v h = low-append (cond (l .given) (take 4 v) []) (givenGroups ls (drop 4 v)) (low-if (l .given) (take 4 v) (low-take 4 v h)) (low-groups ls (drop 4 v) (low-drop 4 v h))
-
-listed-in : (ls : List Level) (f : List ℕ) → SecondIn f → SecondIn (listedOf ls f)
-listed-in ls [] h = record { counts = λ i. low-groups ls [] low-none (suc i) }
-listed-in ls (x ∷ v) h =
-    let k : Low v = λ i. h .counts i in
-    record { counts = λ i. low-append (take 19 v) (givenGroups ls (drop 19 v)) (low-take 19 v k) (low-groups ls (drop 19 v) (low-drop 19 v k)) i }
+  listed-in : SecondIn f → SecondIn (listedOf ls f)
+  listed-in h = record {
+    frames = listed-most 400000 1 (omega arith) (h .frames);
+    heads = λ i k. listed-most 400000 (i + 2) (omega arith) (h .heads i k);
+    section = layer-in 12 (omega arith) (h .section);
+    path = layer-in 17 (omega arith) (h .path);
+  }
 
 -- The seconds of accepted calls, listed.
 module _ (p : Settings) (v : SettingsIn p) (cs : List LevelCall) (a : AllTaken (freshTandem (freshOf p)) cs) (ls : List Level) where
   abbrev listed : ℕ → ℕ → List (List ℕ)
   listed i n = map (listedOf ls) (secondsFrom p cs i n)
 
-  long-second : (i : ℕ) → 20 ≤ length (secondAt p cs i)
+  long-second : (i : ℕ) → 22 ≤ length (secondAt p cs i)
   unfolding reportOf
   long-second i = omega arith
 
-  listed-low : (i j : ℕ) → j < 20 → getD (secondAt p cs i) j 0 ≤ 1 → getD (listedOf ls (secondAt p cs i)) j 0 ≤ 1
-  listed-low i j l h = omega (arith, listed-at ls (secondAt p cs i) (long-second i) j l, h)
+  listed-low : (i j : ℕ) → j < 22 → getD (secondAt p cs i) j 0 ≤ 1 → getD (listedOf ls (secondAt p cs i)) j 0 ≤ 1
+  listed-low i j = listed-most ls (secondAt p cs i) (long-second i) 1 j
 
   listed-alone : (i : ℕ) → secondOf (listedOf ls (secondAt p cs i)) ≡ summaryOf (listedOf ls (secondAt p cs i) ∷ [])
   listed-alone i =
       second-alone (listedOf ls (secondAt p cs i))
       (listed-low i 14 (omega arith) (fourteen p (beforeMark i cs) _))
       (listed-low i 15 (omega arith) (fifteen p (beforeMark i cs) _))
-      (listed-low i 18 (omega arith) (eighteen p (beforeMark i cs) _))
       (listed-low i 19 (omega arith) (nineteen p (beforeMark i cs) _))
+      (listed-low i 20 (omega arith) (twenty p (beforeMark i cs) _))
 
   listed-numbered : (i n : ℕ) → 1 ≤ i → i + n ≤ marksIn cs + 1 → Numbered i (listed i n)
   unfolding secondsFrom
@@ -143,7 +125,7 @@ module _ (p : Settings) (v : SettingsIn p) (cs : List LevelCall) (a : AllTaken (
   listed-numbered i (suc n) low high =
       let one : i ≤ marksIn cs = omega (arith, high) in (
         listed-at ls (secondAt p cs i) (long-second i) 0 (omega arith) ∙ numbered p v cs a i low one,
-        (listed-in ls (secondAt p cs i) (second-in p v cs a i low one), listed-numbered (suc i) n (omega arith) (omega (arith, high))),
+        (listed-in ls (secondAt p cs i) (long-second i) (second-in p v cs a i low one), listed-numbered (suc i) n (omega arith) (omega (arith, high))),
       )
 
   all-alone : (i n : ℕ) → Alone (listed i n)

@@ -13,25 +13,57 @@ use Rattle.answer.specs.Answer.{NoAnswer}
 use Rattle.overhead.specs.declared.Field.{Field}
 use Rattle.overhead.specs.declared.Overhead.{Overhead}
 use Rattle.overhead.specs.Overhead.{threeOf, fourOf, fieldOf, overheadOf, levelField, farBlock}
+use Rattle.overhead.specs.Bei.{pathBei, beiOf, isFar, violationsOf, isBiae}
+use Rattle.overhead.specs.declared.Bei.{Bei}
+use Rattle.overhead.specs.declared.Bei.the-variants.{None, Number, Biae}
 use Rattle.overhead.proofs.overhead_of.Kinds as overhead-kinds
 use Rattle.overhead.proofs.overhead_of.Reads as overhead-reads
 use Rattle.overhead.proofs.level_field.Kinds as level-kinds
 use Rattle.overhead.proofs.level_field.Reads as level-reads
-use Rattle.overhead.proofs.far_block.Kinds as far-kinds
-use Rattle.overhead.proofs.far_block.Reads as far-reads
+use Rattle.overhead.proofs.bei_of.Kinds as bei-of-kinds
+use Rattle.overhead.proofs.bei_of.Reads as bei-of-reads
+use Rattle.overhead.proofs.path_bei.Kinds as path-bei-kinds
+use Rattle.overhead.proofs.path_bei.Reads as path-bei-reads
+use Rattle.overhead.proofs.is_far.Kinds as is-far-kinds
+use Rattle.overhead.proofs.is_far.Reads as is-far-reads
+use Rattle.overhead.proofs.violations.Kinds as violations-kinds
+use Rattle.overhead.proofs.violations.Reads as violations-reads
+use Rattle.overhead.proofs.is_mark.Kinds as is-mark-kinds
+use Rattle.overhead.proofs.is_mark.Reads as is-mark-reads
 
--- 0 and 9 to 15 are no block, 8 is one
-pub bei-zero : NoAnswer far-kinds.ps far-kinds.r far-reads.Post (0, tt) true
-unfolding farBlock
-bei-zero s e = true≢false e
+-- 0 and 9 to 15 are no number, 8 is one
+pub bei-zero : NoAnswer bei-of-kinds.ps bei-of-kinds.r bei-of-reads.Post (0, tt) (Number 0)
+unfolding farBlock pathBei beiOf
+bei-zero s e = true≢false (ap isFar e)
 
-pub bei-nine : NoAnswer far-kinds.ps far-kinds.r far-reads.Post (9, tt) true
-unfolding farBlock
-bei-nine s e = true≢false e
+pub bei-nine : NoAnswer bei-of-kinds.ps bei-of-kinds.r bei-of-reads.Post (9, tt) (Number 9)
+unfolding farBlock pathBei beiOf
+bei-nine s e = true≢false (ap isFar e)
 
-pub bei-eight : NoAnswer far-kinds.ps far-kinds.r far-reads.Post (8, tt) false
-unfolding farBlock
-bei-eight s e = false≢true e
+pub bei-eight : NoAnswer path-bei-kinds.ps path-bei-kinds.r path-bei-reads.Post (8, tt) None
+unfolding farBlock pathBei
+bei-eight s e = false≢true (ap isFar e)
+
+-- 1011 is not eleven violations, and in the path it is not the mark
+pub bei-eleven : NoAnswer bei-of-kinds.ps bei-of-kinds.r bei-of-reads.Post (11, tt) (Number 11)
+unfolding beiOf
+bei-eleven s e = true≢false (ap isFar e)
+
+pub path-mark : NoAnswer path-bei-kinds.ps path-bei-kinds.r path-bei-reads.Post (11, tt) Biae
+unfolding farBlock pathBei
+path-mark s e = true≢false (ap isBiae e)
+
+-- the mark is no far block
+pub mark-far : NoAnswer is-far-kinds.ps is-far-kinds.r is-far-reads.Post (Biae, tt) true
+mark-far s e = true≢false e
+
+-- a number is so many violations, and not one
+pub number-for-one : NoAnswer violations-kinds.ps violations-kinds.r violations-reads.Post (Number 8, tt) 1
+number-for-one s e = let h : _≡_ {A = ℕ} 1 8 = e in omega arith
+
+-- no number is the mark
+pub number-mark : NoAnswer is-mark-kinds.ps is-mark-kinds.r is-mark-reads.Post (Number 8, tt) true
+number-mark s e = true≢false e
 
 -- what bytes that end early show
 module _ (κs : Lfts 1) (a : Dens κs overhead-kinds.ps) (s : AtExit (endedOf 1 overhead-kinds.ps overhead-kinds.r) κs) (x : Overhead) (e : overhead-reads.Post κs a x s) where

@@ -1,1 +1,2 @@
 pub mod Overhead
+pub mod Bei

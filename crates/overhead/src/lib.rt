@@ -1,7 +1,8 @@
 // One frame's overhead: 64 bytes, four rows of columns 1 to 16, row after row.
 ghost use mathlib.Core.Path.{_≡_};
 ghost use lib.ListN.{getD};
-ghost use Rattle.overhead.specs.Overhead.{fourOf, threeOf, fieldOf, overheadOf, levelField, farBlock};
+ghost use Rattle.overhead.specs.Overhead.{fourOf, threeOf, fieldOf, overheadOf, levelField};
+ghost use Rattle.overhead.specs.Bei.{beiOf, pathBei, isFar, violationsOf, isBiae};
 
 // The three bytes of SM, PM or a tandem level as far as they are looked at. The section looks at `iae`, path and levels at `stat`.
 pub struct Field {
@@ -104,9 +105,62 @@ pub fn level_field(bytes: &[u8], level: u8) -> Field
     }
 }
 
-// The BEI reading: whether it tells of a far-end errored block.
-pub fn far_block(bei: u8) -> bool
-    ensures { λ r. ⌜ r ≡ farBlock bei ⌝ }
+// What a BEI code says: nothing, so many violations (1 to 8), or the mark of an alignment error that the far end has met.
+pub enum Bei {
+    None,
+    Number(u8),
+    Biae,
+}
+
+// The BEI reading of the section and of a tandem level.
+pub fn bei_of(code: u8) -> Bei
+    ensures { λ r. ⌜ r ≡ beiOf code ⌝ }
 {
-    (1 <= bei) & (bei <= 8)
+    if code == 11 {
+        return Bei::Biae;
+    }
+    path_bei(code)
+}
+
+// The BEI reading of the path, where 1011 is none.
+pub fn path_bei(code: u8) -> Bei
+    ensures { λ r. ⌜ r ≡ pathBei code ⌝ }
+{
+    if (1 <= code) & (code <= 8) {
+        return Bei::Number(code);
+    }
+    Bei::None
+}
+
+// Whether it tells of a far-end errored block.
+pub fn is_far(b: Bei) -> bool
+    ensures { λ r. ⌜ r ≡ isFar b ⌝ }
+{
+    match b {
+        Bei::None => false,
+        Bei::Number(_) => true,
+        Bei::Biae => false,
+    }
+}
+
+// How many violations it tells of.
+pub fn violations(b: Bei) -> u8
+    ensures { λ r. ⌜ r ≡ violationsOf b ⌝ }
+{
+    match b {
+        Bei::None => 0,
+        Bei::Number(n) => n,
+        Bei::Biae => 0,
+    }
+}
+
+// Whether it is the BIAE mark.
+pub fn is_mark(b: Bei) -> bool
+    ensures { λ r. ⌜ r ≡ isBiae b ⌝ }
+{
+    match b {
+        Bei::None => false,
+        Bei::Number(_) => false,
+        Bei::Biae => true,
+    }
 }

@@ -18,14 +18,14 @@ use Rattle.pack.specs.Pack.{summaryBytes, summaryFrom, recordedOf, summa
 
 -- otn_summary
 module _ (b out : List ℕ) where
-  short : length b < 80 → SummaryCall b out 26 out
+  short : length b < 88 → SummaryCall b out 26 out
   unfolding summaryRefusal summaryOut
-  short h = record { answers = rw (lt-leb 80 (length b) h); fills = rw (lt-leb 80 (length b) h) }
+  short h = record { answers = rw (lt-leb 88 (length b) h); fills = rw (lt-leb 88 (length b) h) }
 
-  module _ (f : List ℕ) (s : Summary) (good : Bool) (h : 80 ≤ length b) (e : f ≡ wordsIn 20 0 b) (g : s ≡ secondOf f) (v : good ≡ validOf s) where
+  module _ (f : List ℕ) (s : Summary) (good : Bool) (h : 88 ≤ length b) (e : f ≡ wordsIn 22 0 b) (g : s ≡ secondOf f) (v : good ≡ validOf s) where
     here : s ≡ recordedOf b
     unfolding recordedOf
-    here = g ∙ ap secondOf (e ∙ words-room 20 0 b (omega arith))
+    here = g ∙ ap secondOf (e ∙ words-room 22 0 b (omega arith))
 
     test : validOf (recordedOf b) ≡ good
     test = sym (v ∙ ap validOf here)
@@ -33,42 +33,42 @@ module _ (b out : List ℕ) where
     pub summarized : (filled : List ℕ) → good ≡ true → filled ≡ poured out (summaryBytes s) → SummaryCall b out 0 filled
     unfolding summaryRefusal summaryOut
     summarized filled t p = record {
-      answers = rw (le-leb 80 (length b) h, test, t);
-      fills = rw (le-leb 80 (length b) h, test, t) (p ∙ ap (λ (x : Summary). poured out (summaryBytes x)) here);
+      answers = rw (le-leb 88 (length b) h, test, t);
+      fills = rw (le-leb 88 (length b) h, test, t) (p ∙ ap (λ (x : Summary). poured out (summaryBytes x)) here);
     }
 
     pub no-second : good ≡ false → SummaryCall b out 26 out
     unfolding summaryRefusal summaryOut
-    no-second t = record { answers = rw (le-leb 80 (length b) h, test, t); fills = rw (le-leb 80 (length b) h, test, t) }
+    no-second t = record { answers = rw (le-leb 88 (length b) h, test, t); fills = rw (le-leb 88 (length b) h, test, t) }
 
-pub too-short : (b out : List ℕ) → length b < 80 → SummaryCall b out 26 out
+pub too-short : (b out : List ℕ) → length b < 88 → SummaryCall b out 26 out
 too-short = short
 
 -- otn_join
 module _ (a b out : List ℕ) where
-  by-lengths : (x y : Bool) → eqb (length a) 168 ≡ x → eqb (length b) 168 ≡ y → (x && y) ≡ false → joinedRefusal a b ≡ 26
+  by-lengths : (x y : Bool) → eqb (length a) 184 ≡ x → eqb (length b) 184 ≡ y → (x && y) ≡ false → joinedRefusal a b ≡ 26
   unfolding joinedRefusal
   by-lengths false y p q e = rw p
   by-lengths true false p q e = rw (p, q)
   by-lengths true true p q e = absurd (true≢false e)
 
-  pub wrong-length : (eqb (length a) 168 && eqb (length b) 168) ≡ false → JoinCall a b out 26 out
+  pub wrong-length : (eqb (length a) 184 && eqb (length b) 184) ≡ false → JoinCall a b out 26 out
   unfolding joinedOut
   wrong-length e =
-      let r : joinedRefusal a b ≡ 26 = by-lengths (eqb (length a) 168) (eqb (length b) 168) refl refl e in
+      let r : joinedRefusal a b ≡ 26 = by-lengths (eqb (length a) 184) (eqb (length b) 184) refl refl e in
       record { answers = sym r; fills = rw r }
 
-  module _ (x y : List ℕ) (s t : Summary) (j : Joined) (e : (eqb (length a) 168 && eqb (length b) 168) ≡ true) (p : x ≡ numbersIn 21 a) (q : y ≡ numbersIn 21 b)
+  module _ (x y : List ℕ) (s t : Summary) (j : Joined) (e : (eqb (length a) 184 && eqb (length b) 184) ≡ true) (p : x ≡ numbersIn 23 a) (q : y ≡ numbersIn 23 b)
       (u : s ≡ summaryBy x) (v : t ≡ summaryBy y) (w : j ≡ joinOf s t) where
-    left : eqb (length a) 168 ≡ true
-    left = and-left (eqb (length a) 168) (eqb (length b) 168) e
+    left : eqb (length a) 184 ≡ true
+    left = and-left (eqb (length a) 184) (eqb (length b) 184) e
 
-    right : eqb (length b) 168 ≡ true
-    right = and-right (eqb (length a) 168) (eqb (length b) 168) e
+    right : eqb (length b) 184 ≡ true
+    right = and-right (eqb (length a) 184) (eqb (length b) 184) e
 
-    from : (l n : List ℕ) (z : Summary) → eqb (length l) 168 ≡ true → n ≡ numbersIn 21 l → z ≡ summaryBy n → z ≡ summaryFrom l
+    from : (l n : List ℕ) (z : Summary) → eqb (length l) 184 ≡ true → n ≡ numbersIn 23 l → z ≡ summaryBy n → z ≡ summaryFrom l
     unfolding summaryFrom
-    from l n z k m o = let h : length l ≡ 168 = eqb-true (length l) 168 k in o ∙ ap summaryBy (m ∙ numbers-room 21 l (omega arith))
+    from l n z k m o = let h : length l ≡ 184 = eqb-true (length l) 184 k in o ∙ ap summaryBy (m ∙ numbers-room 23 l (omega arith))
 
     both : j ≡ joinOf (summaryFrom a) (summaryFrom b)
     both = w ∙ rw (from a x s left p u, from b y t right q v)

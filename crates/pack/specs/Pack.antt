@@ -1,4 +1,4 @@
--- A summary as 168 bytes, twenty-one numbers of 64 bits, and what otn_summary and otn_join answer and leave (document 02, K6). "A refusal answers its number and nothing else;
+-- A summary as 184 bytes, 23 numbers of 64 bits, and what otn_summary and otn_join answer and leave (document 02, K6). "A refusal answers its number and nothing else;
 -- supervisor and lent buffers keep their contents." A lent output gets the first bytes that it has room for. Assumes nothing.
 use Prim.Native.Nat.{ℕ}
 use mathlib.Core.Path.{_≡_}
@@ -18,15 +18,15 @@ unfoldable pub summaryBytes : Summary → List ℕ
 summaryBytes s = flat8 (numbersOf s)
 
 unfoldable pub summaryFrom : List ℕ → Summary
-summaryFrom b = summaryBy (numbersIn 21 b)
+summaryFrom b = summaryBy (numbersIn 23 b)
 
--- the second of a record, by its first twenty words
+-- the second of a record, by its first 22 words
 unfoldable pub recordedOf : List ℕ → Summary
-recordedOf b = secondOf (wordsOf 20 b)
+recordedOf b = secondOf (wordsOf 22 b)
 
 -- otn_summary: 26 where the record has fewer bytes than these words take, or they are no summary of one second
 abbrev pub summaryChecks : List ℕ → List Check
-summaryChecks b = check 26 (leb 80 (length b)) ∷ check 26 (validOf (recordedOf b)) ∷ []
+summaryChecks b = check 26 (leb 88 (length b)) ∷ check 26 (validOf (recordedOf b)) ∷ []
 
 unfoldable pub summaryRefusal : List ℕ → ℕ
 summaryRefusal b = firstOf (summaryChecks b)
@@ -40,7 +40,7 @@ pub record SummaryCall (b out : List ℕ) (r : ℕ) (filled : List ℕ) : Type 0
 
 -- otn_join: 26 where one of the two has another length, then as two summaries are joined: 26, 20, 21
 abbrev pub joinedChecks : List ℕ → List ℕ → List Check
-joinedChecks a b = check 26 (eqb (length a) 168) ∷ check 26 (eqb (length b) 168) ∷ joinChecks (summaryFrom a) (summaryFrom b)
+joinedChecks a b = check 26 (eqb (length a) 184) ∷ check 26 (eqb (length b) 184) ∷ joinChecks (summaryFrom a) (summaryFrom b)
 
 unfoldable pub joinedRefusal : List ℕ → List ℕ → ℕ
 joinedRefusal a b = firstOf (joinedChecks a b)
@@ -52,9 +52,9 @@ pub record JoinCall (a b out : List ℕ) (r : ℕ) (filled : List ℕ) : Type 0 
   pub answers : r ≡ joinedRefusal a b
   pub fills : filled ≡ joinedOut a b out
 
--- the bytes of a summary are 168, and it is read back from them
+-- the bytes of a summary are 184, and it is read back from them
 pub record SameSummary (s : Summary) : Type 0 where
-  pub long : length (summaryBytes s) ≡ 168
+  pub long : length (summaryBytes s) ≡ 184
   pub back : summaryFrom (summaryBytes s) ≡ s
 
 abbrev pub EverySame : Type 0

@@ -1,4 +1,4 @@
-// A summary in 168 lent bytes: a second's record becomes one, and two are joined there.
+// A summary in 184 lent bytes: a second's record becomes one, and two are joined there.
 use summary::Summary;
 ghost use mathlib.Core.Path.{_≡_};
 ghost use Rattle.codec.specs.Over.{poured};
@@ -23,8 +23,8 @@ fn put(s: Summary, out: &mut [u8])
 pub fn summarize(second: &[u8], out: &mut [u8]) -> u64
     ensures { λ r. ⌜ SummaryCall (now (second .entry)) (now (out .entry)) r (now (out .exit)) ⌝ }
 {
-    if 80 <= second.len() {
-        let f = words::twenty_in(second, 0);
+    if 88 <= second.len() {
+        let f = words::second_in(second, 0);
         let s = summary::second_of(f);
         let good = summary::valid(s);
         if good {
@@ -40,7 +40,7 @@ pub fn summarize(second: &[u8], out: &mut [u8]) -> u64
 pub fn join_bytes(earlier: &[u8], later: &[u8], out: &mut [u8]) -> u64
     ensures { λ r. ⌜ JoinCall (now (earlier .entry)) (now (later .entry)) (now (out .entry)) r (now (out .exit)) ⌝ }
 {
-    if (earlier.len() == 168) & (later.len() == 168) {
+    if (earlier.len() == 184) & (later.len() == 184) {
         let x = words::numbers_in(earlier);
         let y = words::numbers_in(later);
         let a = summary::summary_by(x);

@@ -53,7 +53,7 @@ frame-answer s f = told (refusalOf s (frame f)) _ _ _ _ (eqb (refusalOf s (frame
 
 -- a mark's by the seconds closed and its figures
 mark-answer : (s : Supervisor) → answerOf s (does mark)
-    ≡ cond (ltb (s .seconds) 4294967295) (marked 0 (figuresOf (s .seconds + 1) (closedOf (s .second)))) (marked 4 (replicate 20 0))
+    ≡ cond (ltb (s .seconds) 4294967295) (marked 0 (figuresOf (s .seconds + 1) (closedOf (s .second)))) (marked 4 (replicate 22 0))
 unfolding answerOf markOf
 mark-answer s = cond-under (λ (m : Marked). marked (m .refusal) (m .figures)) (ltb (s .seconds) 4294967295) _ _
 
@@ -80,7 +80,7 @@ module _ (p : Settings) (v : SettingsIn p) (k : List Event) (a : AcceptedBack p 
   answers (does (frame f)) = frame-answer (sup p k) f ∙ ap₂ (λ (n : ℕ) (r : Report). stepped n (cond (eqb n 0) r noReport)) (refusal-is p v k a f) (report-is f)
   answers (does mark) =
       mark-answer (sup p k)
-      ∙ ap₂ (λ (n : ℕ) (l : List ℕ). cond (ltb n 4294967295) (marked 0 l) (marked 4 (replicate 20 0))) (seconds-are p k) (figures-are p v k a)
+      ∙ ap₂ (λ (n : ℕ) (l : List ℕ). cond (ltb n 4294967295) (marked 0 l) (marked 4 (replicate 22 0))) (seconds-are p k) (figures-are p v k a)
   answers (reads layer) = read-is layer
 
 pub page : EveryPage

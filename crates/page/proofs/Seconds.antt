@@ -8,6 +8,7 @@ use native.Mathlib.Omega.{arith}
 use lib.Dec.{eqb, lit<}
 use lib.ListN.{length, getD}
 use Rattle.answer.specs.Bits.{flag}
+use Rattle.answer.specs.Bounded.{Bounded}
 use Rattle.causes.specs.Causes.{ssfOf, timActs, headOf}
 use Rattle.causes.specs.declared.Standing.{Standing}
 use Rattle.second.specs.Second.{countOf, closedOf, figuresOf}
@@ -16,12 +17,12 @@ use Rattle.settings.specs.declared.Settings.{Settings}
 use Rattle.supervisor.specs.Supervisor.{freshOf, frameOf, nextSecond}
 use Rattle.supervisor.specs.declared.Supervisor.{Supervisor}
 use Rattle.history.specs.History.{Frame, Event, frame, mark, framed, standsAt, eventOf, after}
-use Rattle.history.specs.Ledger.{Question, tally as tallyOf, some as someOf, Begins, at-start, after-mark, Since, Says, marks}
-use Rattle.history.specs.Ledger.{under as underOf, sectionNear as nearOf, sectionFar as farOf, sectionNearDs as nearDsOf, sectionFarDs as farDsOf}
-use Rattle.history.specs.Ledger.{sectionIae, sectionBiae, pathNear as pathNearOf, pathFar as pathFarOf, pathNearDs as pathNearDsOf, pathFarDs as pathFarDsOf}
-use Rattle.history.proofs.Ledger.{demand-3}
-use Rattle.page.specs.Page.{framesBack, inSecond, yes, any, tally, some, held, head, sectionNear, sectionFar, sectionNearDs, sectionBdi, dIAE, dBIAE}
-use Rattle.page.specs.Page.{pathNear, pathFar, pathNearDs, pathBdi, under, discarded, farDiscarded, sectionNearBlocks, pathNearBlocks, figures}
+use Rattle.history.specs.Ledger.{Question, Amount, total as totalOf, tally as tallyOf, some as someOf, Begins, at-start, after-mark, Since, Says, marks}
+use Rattle.history.specs.Ledger.{under as underOf, sectionNear as nearOf, sectionFar as farOf, sectionViolations as violationsOf, sectionNearDs as nearDsOf, sectionFarDs as farDsOf}
+use Rattle.history.specs.Ledger.{sectionIae, sectionBiae, pathNear as pathNearOf, pathFar as pathFarOf, pathViolations as pathViolationsOf, pathNearDs as pathNearDsOf, pathFarDs as pathFarDsOf}
+use Rattle.history.proofs.Ledger.{counted-bounds, demand-3}
+use Rattle.page.specs.Page.{framesBack, sm, pm, inSecond, yes, any, tally, some, total, held, head, sectionSsf, sectionNear, sectionFar, sectionViolations, sectionNearDs, sectionBdi, dIAE, dBIAE}
+use Rattle.page.specs.Page.{pathDown, pathNear, pathFar, pathViolations, pathNearDs, pathBdi, under, discarded, farDiscarded, sectionNearBlocks, pathNearBlocks, figures}
 use Rattle.page.proofs.Back.{sup, AcceptedBack, after-back, reached-is}
 use Rattle.page.proofs.Standings.{standing, stands-is}
 
@@ -59,14 +60,53 @@ frames-are k o =
     ∙ ap (λ (l : List Bool). length (o .frames) + length l) (begins-empty (λ f l. true) (o .before) (o .begins))
     ∙ add-zero (length (o .frames)))
 
+-- a second that begins has no violations yet
+begins-none : (v : Frame → List Frame → ℕ) (b : List Event) → Begins b → total v (reverse b) ≡ 0
+unfolding total
+begins-none v b at-start = refl
+begins-none v b (after-mark h) = ap (total v) (reverse-append h (mark ∷ []))
+
+-- an amount of the definitions that is the page's
+module _ (p : Settings) (a : Amount) (v : Frame → List Frame → ℕ)
+    (same : (k : List Event) (f : Frame) → a (standsAt (sup p k) f) f ≡ v f (framesBack k)) where
+  total-back : (fs : List Frame) (k : List Event) → total v (reverseAux (map frame fs) k) ≡ totalOf a (sup p k) fs + total v k
+  unfolding totalOf total eventOf
+  total-back [] k = sym (zero-add _)
+  total-back (f ∷ fs) k = omega (arith, total-back fs (frame f ∷ k), same k f)
+
+  total-is : (k : List Event) (o : Since (reverse k)) → totalOf a (after (freshOf p) (o .before)) (o .frames) ≡ total v k
+  total-is k o =
+      ap (λ (s : Supervisor). totalOf a s (o .frames)) (reached-is p (o .before))
+      ∙ sym (ap (total v) (split k o)
+      ∙ total-back (o .frames) (reverse (o .before))
+      ∙ ap (λ (n : ℕ). totalOf a (sup p (reverse (o .before))) (o .frames) + n) (begins-none v (o .before) (o .begins))
+      ∙ add-zero _)
+
+-- a tally is the total of ones
+pub tally-total : (q : Frame → List Frame → Bool) (k : List Event) → total (λ f l. flag (q f l)) k ≡ tally q k
+unfolding total yes inSecond
+tally-total q [] = refl
+tally-total q (mark ∷ k) = refl
+tally-total q (frame f ∷ k) = ap (λ (n : ℕ). flag (q f (framesBack k)) + n) (tally-total q k)
+
+-- a total whose number is bounded by a question in each frame is bounded by its tally
+pub total-bounded : (q : Frame → List Frame → Bool) (v : Frame → List Frame → ℕ) → ((f : Frame) (l : List Frame) → Bounded (flag (q f l)) (v f l)) → (k : List Event)
+    → Bounded (tally q k) (total v k)
+unfolding total yes inSecond
+total-bounded q v b [] = omega arith
+total-bounded q v b (mark ∷ k) = omega arith
+total-bounded q v b (frame f ∷ k) =
+    let r = total-bounded q v b k in let o = b f (framesBack k) in (omega (arith, r .0, o .0), omega (arith, r .1, o .1))
+
+pub section-bounded : (p : Settings) (k : List Event) → Bounded (tally (sectionFar p) k) (total (sectionViolations p) k)
+section-bounded p = total-bounded (sectionFar p) (sectionViolations p) (λ f l. counted-bounds (sm f .bei) (sectionSsf p f l))
+
+pub path-bounded : (p : Settings) (k : List Event) → Bounded (tally (pathFar p) k) (total (pathViolations p) k)
+path-bounded p = total-bounded (pathFar p) (pathViolations p) (λ f l. counted-bounds (pm f .bei) (pathDown p f l))
+
 -- a question of the definitions that is the page's
 module _ (p : Settings) (a : Question) (q : Frame → List Frame → Bool)
     (same : (k : List Event) (f : Frame) → a (standsAt (sup p k) f) f ≡ q f (framesBack k)) where
-  tally-back : (fs : List Frame) (k : List Event) → tally q (reverseAux (map frame fs) k) ≡ tallyOf a (sup p k) fs + tally q k
-  unfolding tallyOf yes inSecond eventOf
-  tally-back [] k = sym (zero-add _)
-  tally-back (f ∷ fs) k = omega (arith, tally-back fs (frame f ∷ k), ap flag (same k f))
-
   some-back : (fs : List Frame) (k : List Event) → some q (reverseAux (map frame fs) k) ≡ (someOf a (sup p k) fs || some q k)
   unfolding someOf any inSecond eventOf
   some-back [] k = refl
@@ -76,13 +116,7 @@ module _ (p : Settings) (a : Question) (q : Frame → List Frame → Bool)
       ∙ or-swap (someOf a (framed (sup p k) f) fs) (a (standsAt (sup p k) f) f) (some q k)
 
   tally-is : (k : List Event) (o : Since (reverse k)) → tallyOf a (after (freshOf p) (o .before)) (o .frames) ≡ tally q k
-  unfolding yes
-  tally-is k o =
-      ap (λ (s : Supervisor). tallyOf a s (o .frames)) (reached-is p (o .before))
-      ∙ sym (ap (tally q) (split k o)
-      ∙ tally-back (o .frames) (reverse (o .before))
-      ∙ ap (λ (l : List Bool). tallyOf a (sup p (reverse (o .before))) (o .frames) + yes l) (begins-empty q (o .before) (o .begins))
-      ∙ add-zero _)
+  tally-is k o = total-is p (λ d f. flag (a d f)) (λ f l. flag (q f l)) (λ h f. ap flag (same h f)) k o ∙ tally-total q k
 
   some-is : (k : List Event) (o : Since (reverse k)) → someOf a (after (freshOf p) (o .before)) (o .frames) ≡ some q k
   unfolding any
@@ -110,6 +144,10 @@ module _ (p : Settings) (v : SettingsIn p) where
   asks : (a : Question) (k : List Event) (f : Frame) → a (standsAt (sup p k) f) f
       ≡ a (standing p f (framesBack k) (sup p k .layers .section .layer .deg .on) (sup p k .layers .path .layer .deg .on)) f
   asks a k f = ap (λ (d : Standing). a d f) (stands-is p v k f)
+
+  measures : (a : Amount) (k : List Event) (f : Frame) → a (standsAt (sup p k) f) f
+      ≡ a (standing p f (framesBack k) (sup p k .layers .section .layer .deg .on) (sup p k .layers .path .layer .deg .on)) f
+  measures a k f = ap (λ (d : Standing). a d f) (stands-is p v k f)
 
   -- pIAE and pBIAE of the open second
   pub iae-is : (k : List Event) → sup p k .second .iae ≡ discarded p k
@@ -161,6 +199,11 @@ module _ (p : Settings) (v : SettingsIn p) where
     section-far-ds-is =
         says .section-fards ∙ ap₂ (λ (x y : Bool). cond x false y) biae-some (some-is p farDsOf (λ f l. sectionBdi p (f ∷ l)) (asks farDsOf) k o)
 
+    section-sum-is : closedOf (sup p k .second) .section .sum .0 ≡ cond (farDiscarded p k) 0 (total (sectionViolations p) k)
+    unfolding ssfOf
+    section-sum-is =
+        says .section-violations ∙ ap₂ (λ (x : Bool) (n : ℕ). cond x 0 n) biae-some (total-is p violationsOf (sectionViolations p) (measures violationsOf) k o)
+
     pub path-near-is : closedOf (sup p k .second) .path .near .0 ≡ pathNearBlocks p k
     unfolding ssfOf timActs
     path-near-is = says .near ∙ tally-is p pathNearOf (pathNear p) (asks pathNearOf) k o
@@ -176,6 +219,10 @@ module _ (p : Settings) (v : SettingsIn p) where
     path-far-ds-is : closedOf (sup p k .second) .path .fards ≡ some (λ f l. pathBdi p (f ∷ l)) k
     path-far-ds-is = says .fards ∙ some-is p pathFarDsOf (λ f l. pathBdi p (f ∷ l)) (asks pathFarDsOf) k o
 
+    path-sum-is : closedOf (sup p k .second) .path .sum .0 ≡ total (pathViolations p) k
+    unfolding ssfOf timActs
+    path-sum-is = says .violations ∙ total-is p pathViolationsOf (pathViolations p) (measures pathViolationsOf) k o
+
     head-is : (n : ℕ) → n < 10 → getD (closedOf (sup p k .second) .heads) n 0 ≡ under p n k
     unfolding headOf timActs
     head-is n h = says .heads n h ∙ tally-is p (underOf n) (λ f l. eqb (head p f l) n) (asks (underOf n)) k o
@@ -186,6 +233,6 @@ module _ (p : Settings) (v : SettingsIn p) where
         ◂ frames-is
         ◂ head-is 0 (lit< tt) ◂ head-is 1 (lit< tt) ◂ head-is 2 (lit< tt) ◂ head-is 3 (lit< tt) ◂ head-is 4 (lit< tt)
         ◂ head-is 5 (lit< tt) ◂ head-is 6 (lit< tt) ◂ head-is 7 (lit< tt) ◂ head-is 8 (lit< tt) ◂ head-is 9 (lit< tt)
-        ◂ section-near-is ◂ section-far-is ◂ ap flag section-near-ds-is ◂ ap flag section-far-ds-is
-        ◂ path-near-is ◂ path-far-is ◂ ap flag path-near-ds-is ◂ ap flag path-far-ds-is
+        ◂ section-near-is ◂ section-far-is ◂ ap flag section-near-ds-is ◂ ap flag section-far-ds-is ◂ section-sum-is
+        ◂ path-near-is ◂ path-far-is ◂ ap flag path-near-ds-is ◂ ap flag path-far-ds-is ◂ path-sum-is
         ◂ refl

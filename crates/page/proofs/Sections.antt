@@ -4,6 +4,7 @@ use mathlib.Core.Bool.{Bool, not, _&&_, _||_}
 use mathlib.Core.List.{List, _∷_}
 use Prim.Native.Nat.{ℕ}
 use lib.Dec.{eqb}
+use Rattle.overhead.proofs.Codes.{same-far}
 use Rattle.filter.specs.Filter.{filterOf}
 use Rattle.layer.specs.Layer.{traceOf, layerOf, timOf}
 use Rattle.layer.specs.Traced.{traceIn}
@@ -68,7 +69,7 @@ module _ (p : Settings) (v : SettingsIn p) where
   unfolding frameOf layersOf sectionOf standsAfter standingOf sectionStands nextSecond
   biae-stands =
       filter-law p 2 (λ s. s .layers .section .biae) (biaeBit p)
-      (λ k f. ap (λ (x : Bool). filterOf (sup p k .layers .section .biae) 3 x (eqb (sm f .bei) 11)) (faults-is k f)) (λ s. refl) refl
+      (λ k f. ap₂ (λ (x y : Bool). filterOf (sup p k .layers .section .biae) 3 x y) (faults-is k f) (same-far (sm f .bei) .mark)) (λ s. refl) refl
 
   -- "Path SSF = section aTSF"
   pub path-ssf-is : (k : List Event) (f : Frame) → ssfOfPath (standsAt (sup p k) f) ≡ pathSsf p f (framesBack k)

@@ -214,6 +214,13 @@ module _ (p : Settings) where
   abbrev pub pathFar : Frame → List Frame → Bool
   pathFar f l = farBlock (pm f .bei) && not (pathDown f l)
 
+  -- "the sum of BEI violations beside errored blocks .. stopped as the far block count is" (document 02, K7): the number of a frame whose far-end block is counted
+  abbrev pub sectionViolations : Frame → List Frame → ℕ
+  sectionViolations f l = cond (sectionFar f l) (sm f .bei) 0
+
+  abbrev pub pathViolations : Frame → List Frame → ℕ
+  pathViolations f l = cond (pathFar f l) (pm f .bei) 0
+
   -- "Near DS: in some frame of the second SSF, dTIM, or in the path dAIS, dOCI or dLCK stood. Far DS: dBDI stood."
   abbrev pub sectionNearDs : Frame → List Frame → Bool
   sectionNearDs f l = sectionSsf f l || sectionTim (f ∷ l)
@@ -255,6 +262,12 @@ tally q h = yes (inSecond q h)
 
 abbrev pub some : (Frame → List Frame → Bool) → List Event → Bool
 some q h = any (inSecond q h)
+
+-- the total of a number over the frames of the open second
+unfoldable pub total : (Frame → List Frame → ℕ) → List Event → ℕ
+total v [] = 0
+total v (mark ∷ h) = 0
+total v (frame f ∷ h) = v f (framesBack h) + total v h
 
 -- the frames that the open second holds
 abbrev pub held : List Event → ℕ
@@ -312,7 +325,8 @@ module _ (p : Settings) where
   pathDeg h = onBy (p .path .degm) (pathBads h)
 
   -- "S: second from 1, frames, heads 0 to 9, section near blocks, far blocks, near DS, far DS, then the path's four." "Heads are never
-  -- discarded." As the mark closes the second; what is reported of it one mark later: crate reports.
+  -- discarded." "The sum comes last in each layer's group of S fields", and "is discarded .. as the far block count is" (document 02, K7). As the mark closes the second;
+  -- what is reported of it one mark later: crate reports.
   abbrev pub under : ℕ → List Event → ℕ
   under k h = tally (λ f l. eqb (head p f l) k) h
 
@@ -324,10 +338,12 @@ module _ (p : Settings) where
       ∷ cond (farDiscarded h) 0 (tally (sectionFar p) h)
       ∷ flag (cond (discarded h) false (some (sectionNearDs p) h))
       ∷ flag (cond (farDiscarded h) false (some (λ f l. sectionBdi p (f ∷ l)) h))
+      ∷ cond (farDiscarded h) 0 (total (sectionViolations p) h)
       ∷ pathNearBlocks h
       ∷ tally (pathFar p) h
       ∷ flag (some (pathNearDs p) h)
       ∷ flag (some (λ f l. pathBdi p (f ∷ l)) h)
+      ∷ total (pathViolations p) h
       ∷ []
 
   -- Actions and causes: the report of the frame f after the history h.
@@ -404,7 +420,7 @@ module _ (p : Settings) where
   -- 13 "no accepted trace")
   unfoldable pub answer : List Event → Call → Answer
   answer h (does (frame f)) = stepped (frameRefusal f h) (cond (eqb (frameRefusal f h) 0) (report f h) noReport)
-  answer h (does mark) = cond (ltb (marks h) 4294967295) (marked 0 (figures h)) (marked 4 (replicate 20 0))
+  answer h (does mark) = cond (ltb (marks h) 4294967295) (marked 0 (figures h)) (marked 4 (replicate 22 0))
   answer h (reads layer) = cond (leb layer 1) (read (traceOfLayer layer h)) (traced 11 (replicate 64 0))
     where
       read : AcceptedTrace → Answer

@@ -12,14 +12,15 @@ use lib.ListN.{length, getD, replicate}
 use borrow.Author.Tests.{eq-eqb}
 use Rattle.answer.specs.Over.{over}
 use Rattle.codec.specs.Over.{bytesIn, laid}
-use Rattle.words.specs.Words.{flat, countedIn}
+use Rattle.words.specs.Words.{flat, countedIn, addedIn}
 use Rattle.overhead.specs.declared.Field.{Field}
 use Rattle.overhead.specs.Overhead.{farBlock}
-use Rattle.filter.specs.Filter.{upOf, filterOf}
+use Rattle.overhead.specs.Bei.{beiOf, pathBei}
+use Rattle.filter.specs.Filter.{upOf, addOf, filterOf}
 use Rattle.filter.specs.Stat.{inRow, statOf}
 use Rattle.signal.specs.Signal.{signalOf, standsFor}
 use Rattle.second.specs.declared.Blocks.{Blocks}
-use Rattle.second.specs.Second.{discardOf}
+use Rattle.second.specs.Second.{countedOf, discardOf}
 use Rattle.causes.specs.declared.Line.{Line}
 use Rattle.causes.specs.declared.SectionStands.{SectionStands}
 use Rattle.frame.specs.Layers.{lineOf}
@@ -55,17 +56,26 @@ deg-forgotten κs a x s n b off e =
     let h = rw t at (e .answers) in
     true≢false (sym (eq-eqb _ _ b) ∙ sym (ap (λ (y : SectionStands). y .deg) h) ∙ off)
 
--- STAT 101, and BEI 1
-abbrev locked : Field
-locked = record { tti = 0; bei = 1; bdi = false; iae = false; stat = 5 }
+-- a field by its BEI and STAT
+abbrev told : ℕ → ℕ → Field
+told bei stat = record { tti = 0; bei = bei; bdi = false; iae = false; stat = stat }
 
 -- section_at: a near-end block is not counted under SSF
 pub counted-under-ssf : (κs : Lfts 1) (a : Dens κs section-at-kinds.ps) (x : SectionStands) (s : AtExit (endedOf 1 section-at-kinds.ps section-at-kinds.r) κs)
-    → now (a .0) ≡ replicate 288 0 → a .1 .0 ≡ true → a .1 .1 .1 .0 ≡ locked → a .1 .1 .1 .1 .0 ≡ 1 → getD (now (s .0)) 56 0 ≡ 1
+    → now (a .0) ≡ replicate 288 0 → a .1 .0 ≡ true → a .1 .1 .1 .0 ≡ told 1 5 → a .1 .1 .1 .1 .0 ≡ 1 → getD (now (s .0)) 56 0 ≡ 1
     → section-at-reads.Post κs a x s → ⊥
-unfolding bytesIn sectionRecord sectionNumbers farBlock
+unfolding bytesIn laid over sectionRecord sectionNumbers beiOf pathBei farBlock countedOf addedIn addOf
 counted-under-ssf κs a x s b ssf f sm end e =
     let z : _≡_ {A = ℕ} 1 0 = sym end ∙ ap (λ (l : List ℕ). getD l 56 0) (rw (b, ssf, f, sm) at (e .holds)) in
+    omega arith
+
+-- section_at: 1011 is the mark, and adds no eleven violations
+pub eleven-added : (κs : Lfts 1) (a : Dens κs section-at-kinds.ps) (x : SectionStands) (s : AtExit (endedOf 1 section-at-kinds.ps section-at-kinds.r) κs)
+    → now (a .0) ≡ replicate 288 0 → a .1 .0 ≡ false → a .1 .1 .1 .0 ≡ told 11 0 → a .1 .1 .1 .1 .0 ≡ 0 → getD (now (s .0)) 52 0 ≡ 11
+    → section-at-reads.Post κs a x s → ⊥
+unfolding bytesIn laid over sectionRecord sectionNumbers beiOf pathBei farBlock countedOf addedIn addOf
+eleven-added κs a x s b ssf f sm end e =
+    let z : _≡_ {A = ℕ} 11 0 = sym end ∙ ap (λ (l : List ℕ). getD l 52 0) (rw (b, ssf, f, sm) at (e .holds)) in
     omega arith
 
 -- path_at: bytes that are no record are not written
@@ -78,11 +88,20 @@ path-beyond κs a x s b end e =
 
 -- path_at: a far-end block is not counted under dLCK
 pub counted-under-lck : (κs : Lfts 1) (a : Dens κs path-at-kinds.ps) (x : PathFrame) (s : AtExit (endedOf 1 path-at-kinds.ps path-at-kinds.r) κs)
-    → now (a .0) ≡ replicate 41 0 ++ (5 ∷ 2 ∷ replicate 245 0) → a .1 .0 ≡ false → a .1 .1 .1 .0 ≡ locked → a .1 .1 .1 .1 .0 ≡ 0
+    → now (a .0) ≡ replicate 41 0 ++ (5 ∷ 2 ∷ replicate 245 0) → a .1 .0 ≡ false → a .1 .1 .1 .0 ≡ told 1 5 → a .1 .1 .1 .1 .0 ≡ 0
     → getD (now (s .0)) 60 0 ≡ 1 → path-at-reads.Post κs a x s → ⊥
-unfolding bytesIn pathRecord pathNumbers farBlock standsFor signalOf statOf inRow upOf
+unfolding bytesIn laid over pathRecord pathNumbers pathBei farBlock countedOf addedIn addOf standsFor signalOf statOf inRow upOf
 counted-under-lck κs a x s b ssf f pm end e =
     let z : _≡_ {A = ℕ} 1 0 = sym end ∙ ap (λ (l : List ℕ). getD l 60 0) (rw (b, ssf, f, pm) at (e .holds)) in
+    omega arith
+
+-- path_at: under dAIS the eight violations of a BEI are not added
+pub summed-under-ais : (κs : Lfts 1) (a : Dens κs path-at-kinds.ps) (x : PathFrame) (s : AtExit (endedOf 1 path-at-kinds.ps path-at-kinds.r) κs)
+    → now (a .0) ≡ replicate 41 0 ++ (7 ∷ 2 ∷ replicate 245 0) → a .1 .0 ≡ false → a .1 .1 .1 .0 ≡ told 8 7 → a .1 .1 .1 .1 .0 ≡ 0
+    → getD (now (s .0)) 52 0 ≡ 8 → path-at-reads.Post κs a x s → ⊥
+unfolding bytesIn laid over pathRecord pathNumbers pathBei farBlock countedOf addedIn addOf standsFor signalOf statOf inRow upOf
+summed-under-ais κs a x s b ssf f pm end e =
+    let z : _≡_ {A = ℕ} 8 0 = sym end ∙ ap (λ (l : List ℕ). getD l 52 0) (rw (b, ssf, f, pm) at (e .holds)) in
     omega arith
 
 -- line_at: value 1 is TSF-P
@@ -127,6 +146,14 @@ pub iae-keeps-near : (κs : Lfts 1) (a : Dens κs close-at-kinds.ps) (x : Blocks
 unfolding bytesIn discardOf
 iae-keeps-near κs a x s b near e =
     let z : _≡_ {A = ℕ} 1 0 = sym near ∙ ap (λ (y : Blocks). y .near .0) (rw b at (e .answers)) in
+    omega arith
+
+-- close_at: a second in which dBIAE stood has no sum
+pub biae-keeps-sum : (κs : Lfts 1) (a : Dens κs close-at-kinds.ps) (x : Blocks) (s : AtExit (endedOf 1 close-at-kinds.ps close-at-kinds.r) κs)
+    → now (a .0) ≡ replicate 48 0 ++ (1 ∷ 0 ∷ 0 ∷ 0 ∷ 1 ∷ replicate 235 0) → x .sum .0 ≡ 1 → close-at-reads.Post κs a x s → ⊥
+unfolding bytesIn discardOf
+biae-keeps-sum κs a x s b sum e =
+    let z : _≡_ {A = ℕ} 1 0 = sym sum ∙ ap (λ (y : Blocks). y .sum .0) (rw b at (e .answers)) in
     omega arith
 
 -- close_at: the next second has no block

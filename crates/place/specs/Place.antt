@@ -4,12 +4,12 @@ use mathlib.Core.Path.{_≡_}
 use mathlib.Core.Bool.{Bool, false, cond, _&&_, _||_, not}
 use mathlib.Core.List.{List, [], _∷_, _++_}
 use Prim.Native.Nat.{ℕ, _+_}
-use lib.Dec.{eqb, leb, ltb}
+use lib.Dec.{leb, ltb}
 use lib.ListN.{getD, replicate}
 use Rattle.codec.specs.Over.{bytesIn, laid}
 use Rattle.codec.specs.Pieces.{piece, joined}
 use Rattle.words.specs.Words.{flat, countedIn}
-use Rattle.overhead.specs.Overhead.{farBlock}
+use Rattle.overhead.specs.Bei.{beiOf, pathBei, isFar, isBiae}
 use Rattle.overhead.specs.declared.Field.{Field}
 use Rattle.filter.specs.Filter.{filterOf}
 use Rattle.filter.specs.Stat.{statOf}
@@ -22,7 +22,7 @@ use Rattle.signal.specs.Signal.{standsFor, isAis, isOci, isLck, raisedOf}
 use Rattle.signal.specs.declared.Signal.the-variants.{Clear}
 use Rattle.layer.specs.declared.Layer.{Layer}
 use Rattle.second.specs.declared.Blocks.{Blocks}
-use Rattle.second.specs.Second.{discardOf, noBlocks}
+use Rattle.second.specs.Second.{countedOf, discardOf, noBlocks}
 use Rattle.causes.specs.declared.SectionStands.{SectionStands}
 use Rattle.causes.specs.declared.PathStands.{PathStands}
 use Rattle.frame.specs.Layers.{lineOf}
@@ -37,13 +37,14 @@ use Rattle.place.specs.declared.PathFrame.{PathFrame}
 use Rattle.place.specs.declared.Filtered.{Filtered}
 
 -- The section's other numbers: "dBDI: BDI 1 in five frames in a row; cleared by five 0"; "Section dIAE: IAE, five and five. Section dBIAE: BEI = 1011
--- in three frames in a row; cleared by three others. Both false during SSF and dTIM." It has no STAT. Then the second's flags and counts: "Blocks
--- are not counted during SSF"; "Near DS: in some frame of the second SSF, dTIM .. stood. Far DS: dBDI stood."
+-- in three frames in a row; cleared by three others. Both false during SSF and dTIM." It has no STAT. Then the second's flags, sum and counts: "Blocks
+-- are not counted during SSF"; "Near DS: in some frame of the second SSF, dTIM .. stood. Far DS: dBDI stood." The sum of BEI violations "is .. stopped as
+-- the far block count is" (document 02, K7).
 abbrev pub sectionFilters : List ℕ → Bool → Bool → Field → Filtered
 sectionFilters w ssf tim f = record {
   bdi = filterOf (filterAt w 0) 5 ssf (f .bdi);
   iae = filterOf (filterAt w 2) 5 (ssf || tim) (f .iae);
-  biae = filterOf (filterAt w 4) 3 (ssf || tim) (eqb (f .bei) 11);
+  biae = filterOf (filterAt w 4) 3 (ssf || tim) (isBiae (beiOf (f .bei)));
 }
 
 abbrev pub filteredBytes : Filtered → List ℕ
@@ -56,8 +57,13 @@ sectionNumbers w ssf tim f sm =
     (piece 6 (filteredBytes d)
     ∷ piece 4 (bytesIn 4 6 w)
     ∷ piece 4 (flagsIn (ssf || tim) (d .bdi .on) (d .iae .on) (d .biae .on) (bytesIn 4 10 w))
-    ∷ piece 7 (bytesIn 7 14 w)
-    ∷ piece 8 (countsIn (leb 1 sm && not ssf) (farBlock (f .bei) && not ssf) (bytesIn 8 21 w))
+    ∷ piece 3 (bytesIn 3 14 w)
+    ∷ piece 12
+    (countsIn
+    (leb 1 sm && not ssf)
+    (isFar (beiOf (f .bei)) && not ssf)
+    (countedOf (beiOf (f .bei)) ssf)
+    (bytesIn 12 17 w))
     ∷ [])
 
 abbrev pub sectionStood : List ℕ → Bool → Multi → Field → SectionStands
@@ -100,8 +106,13 @@ pathNumbers w t forget stops tim f pm =
     ∷ piece 4 (bytesIn 4 2 w)
     ∷ piece 4 (statBytes t)
     ∷ piece 4 (flagsIn (stops || tim) (bdi .on) false false (bytesIn 4 10 w))
-    ∷ piece 7 (bytesIn 7 14 w)
-    ∷ piece 8 (countsIn (leb 1 pm && not stops) (farBlock (f .bei) && not stops) (bytesIn 8 21 w))
+    ∷ piece 3 (bytesIn 3 14 w)
+    ∷ piece 12
+    (countsIn
+    (leb 1 pm && not stops)
+    (isFar (pathBei (f .bei)) && not stops)
+    (countedOf (pathBei (f .bei)) stops)
+    (bytesIn 12 17 w))
     ∷ [])
 
 abbrev pub pathStood : List ℕ → Bool → Multi → Field → PathStands
@@ -147,7 +158,8 @@ unfoldable pub talliedIn : List ℕ → ℕ → List ℕ
 talliedIn b head = cond (ltb head 10) (countedIn (countedIn b 0 400000) (head + 1) 400000) (countedIn b 0 400000)
 
 -- A mark. A layer's values of the second are closed ("If section dIAE stood in any frame, the section's four values of that second become 0 and
--- false; if dBIAE, its two far values"), dDEG is decided by them, and the next second has none.
+-- false; if dBIAE, its two far values"; the sum "is discarded .. as the far block count is", document 02, K7), dDEG is decided by them, and the next
+-- second has none.
 abbrev pub closedIn : List ℕ → Blocks
 closedIn b = let s : State = stateIn (bytesIn 32 32 b) in discardOf (s .blocks) (s .iaeseen) (s .biaeseen)
 

@@ -10,6 +10,7 @@ use overhead::Field;
 use second::Blocks;
 use second::Far;
 use second::Near;
+use second::Sum;
 use signal::Raised;
 use signal::Signal;
 ghost use mathlib.Core.Path.{_≡_};
@@ -47,9 +48,11 @@ fn filters_at(w: &mut [u8], ssf: bool, tim: bool, f: Field) -> Filtered
     requires { ⌜ length (now w) ≡ 6 ⌝ }
     ensures { λ r. ⌜ (r ≡ sectionFilters (now (w .entry)) ssf tim f) × (now (w .exit) ≡ filteredBytes (sectionFilters (now (w .entry)) ssf tim f)) ⌝ }
 {
+    let read = overhead::bei_of(f.bei);
+    let mark = overhead::is_mark(read);
     let bdi = fields::filter_at(&mut w[0..2], 5, ssf, f.bdi);
     let iae = fields::filter_at(&mut w[2..4], 5, ssf | tim, f.iae);
-    let biae = fields::filter_at(&mut w[4..6], 3, ssf | tim, f.bei == 11);
+    let biae = fields::filter_at(&mut w[4..6], 3, ssf | tim, mark);
     Filtered {
         bdi: bdi,
         iae: iae,
@@ -57,15 +60,17 @@ fn filters_at(w: &mut [u8], ssf: bool, tim: bool, f: Field) -> Filtered
     }
 }
 
-// A section's other numbers after a frame: dBDI, dIAE and dBIAE, and the second's flags and counts.
+// A section's other numbers after a frame: dBDI, dIAE and dBIAE, and the second's flags, counts and sum.
 fn section_numbers(w: &mut [u8], ssf: bool, tim: bool, f: Field, sm: u8) -> Filtered
     requires { ⌜ length (now w) ≡ 29 ⌝ }
     ensures { λ r. ⌜ (r ≡ sectionFilters (bytesIn 6 0 (now (w .entry))) ssf tim f) × (now (w .exit) ≡ sectionNumbers (now (w .entry)) ssf tim f sm) ⌝ }
 {
-    let far = overhead::far_block(f.bei);
+    let read = overhead::bei_of(f.bei);
+    let far = overhead::is_far(read);
+    let more = second::counted(read, ssf);
     let d = filters_at(&mut w[0..6], ssf, tim, f);
     fields::flags_at(&mut w[10..14], ssf | tim, d.bdi.on, d.iae.on, d.biae.on);
-    fields::counts_at(&mut w[21..29], (1 <= sm) & !ssf, far & !ssf);
+    fields::counts_at(&mut w[17..29], (1 <= sm) & !ssf, far & !ssf, more);
     d
 }
 
@@ -105,7 +110,7 @@ pub fn section_at(b: &mut [u8], ssf: bool, m: Multi, f: Field, sm: u8) -> Sectio
     }
 }
 
-// A path's other numbers after a frame: dBDI, STAT, and the second's flags and counts.
+// A path's other numbers after a frame: dBDI, STAT, and the second's flags, counts and sum.
 fn path_numbers(
     w: &mut [u8],
     t: Stat,
@@ -118,11 +123,13 @@ fn path_numbers(
     requires { ⌜ length (now w) ≡ 29 ⌝ }
     ensures { λ r. ⌜ (r ≡ pathBdiAt (bytesIn 2 0 (now (w .entry))) forget f) × (now (w .exit) ≡ pathNumbers (now (w .entry)) t forget stops tim f pm) ⌝ }
 {
-    let far = overhead::far_block(f.bei);
+    let read = overhead::path_bei(f.bei);
+    let far = overhead::is_far(read);
+    let more = second::counted(read, stops);
     let bdi = fields::filter_at(&mut w[0..2], 5, forget, f.bdi);
     fields::lay_stat(&mut w[6..10], t);
     fields::flags_at(&mut w[10..14], stops | tim, bdi.on, false, false);
-    fields::counts_at(&mut w[21..29], (1 <= pm) & !stops, far & !stops);
+    fields::counts_at(&mut w[17..29], (1 <= pm) & !stops, far & !stops, more);
     bdi
 }
 
@@ -232,6 +239,7 @@ pub fn close_at(b: &mut [u8]) -> Blocks
         far: Far(0),
         neards: false,
         fards: false,
+        sum: Sum(0),
     };
     let mut state = s;
     state.blocks = none;

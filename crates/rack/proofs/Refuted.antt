@@ -9,11 +9,15 @@ use borrow.Fn.Kinds.{Dens, endedOf}
 use denote.Triple.Clauses.{AtExit}
 use denote.Ref.{now}
 use lib.ListN.{getD, replicate}
-use Rattle.codec.specs.Over.{bytesIn}
+use Rattle.answer.specs.Over.{over}
+use Rattle.codec.specs.Over.{bytesIn, laid}
+use Rattle.words.specs.Words.{addedIn}
 use Rattle.overhead.specs.declared.Field.{Field}
 use Rattle.overhead.specs.Overhead.{farBlock}
-use Rattle.filter.specs.Filter.{upOf, filterOf}
+use Rattle.overhead.specs.Bei.{beiOf, pathBei}
+use Rattle.filter.specs.Filter.{upOf, addOf, filterOf}
 use Rattle.filter.specs.Stat.{inRow, statOf}
+use Rattle.second.specs.Second.{countedOf}
 use Rattle.level.specs.declared.LevelStands.{LevelStands}
 use Rattle.level.specs.Status.{statusOf, statusFor, raisesLtc}
 use Rattle.ranges.specs.Sound.{below, layerRanged}
@@ -43,9 +47,27 @@ twice v = replicate 41 0 ++ (v ∷ 2 ∷ replicate 245 0)
 pub counted-under-ltc : (κs : Lfts 1) (a : Dens κs level-at-kinds.ps) (x : LevelStands) (s : AtExit (endedOf 1 level-at-kinds.ps level-at-kinds.r) κs)
     → now (a .0) ≡ twice 0 → a .1 .0 ≡ false → a .1 .1 .1 .0 ≡ shown 0 0 → a .1 .1 .1 .1 .0 ≡ 1 → getD (now (s .0)) 56 0 ≡ 1
     → level-at-reads.Post κs a x s → ⊥
-unfolding bytesIn levelRecord levelNumbers farBlock statusFor statusOf statOf inRow upOf
+unfolding bytesIn laid over levelRecord levelNumbers beiOf pathBei farBlock countedOf addedIn addOf statusFor statusOf statOf inRow upOf
 counted-under-ltc κs a x s b ssf f v end e =
     let z : _≡_ {A = ℕ} 1 0 = sym end ∙ ap (λ (l : List ℕ). getD l 56 0) (rw (b, ssf, f, v) at (e .holds)) in
+    omega arith
+
+-- level_at: nor are the eight violations of a BEI added to the sum
+pub summed-under-ltc : (κs : Lfts 1) (a : Dens κs level-at-kinds.ps) (x : LevelStands) (s : AtExit (endedOf 1 level-at-kinds.ps level-at-kinds.r) κs)
+    → now (a .0) ≡ twice 0 → a .1 .0 ≡ false → a .1 .1 .1 .0 ≡ shown 8 0 → a .1 .1 .1 .1 .0 ≡ 0 → getD (now (s .0)) 52 0 ≡ 8
+    → level-at-reads.Post κs a x s → ⊥
+unfolding bytesIn laid over levelRecord levelNumbers beiOf pathBei farBlock countedOf addedIn addOf statusFor statusOf statOf inRow upOf
+summed-under-ltc κs a x s b ssf f v end e =
+    let z : _≡_ {A = ℕ} 8 0 = sym end ∙ ap (λ (l : List ℕ). getD l 52 0) (rw (b, ssf, f, v) at (e .holds)) in
+    omega arith
+
+-- level_at: 1011 is the mark, and adds no eleven violations
+pub eleven-added : (κs : Lfts 1) (a : Dens κs level-at-kinds.ps) (x : LevelStands) (s : AtExit (endedOf 1 level-at-kinds.ps level-at-kinds.r) κs)
+    → now (a .0) ≡ replicate 288 0 → a .1 .0 ≡ false → a .1 .1 .1 .0 ≡ shown 11 0 → a .1 .1 .1 .1 .0 ≡ 0 → getD (now (s .0)) 52 0 ≡ 11
+    → level-at-reads.Post κs a x s → ⊥
+unfolding bytesIn laid over levelRecord levelNumbers beiOf pathBei farBlock countedOf addedIn addOf statusFor statOf inRow upOf
+eleven-added κs a x s b ssf f v end e =
+    let z : _≡_ {A = ℕ} 11 0 = sym end ∙ ap (λ (l : List ℕ). getD l 52 0) (rw (b, ssf, f, v) at (e .holds)) in
     omega arith
 
 -- level_at: zeros are no accepted STAT, so the first frame of STAT 000 has no dLTC
@@ -69,7 +91,7 @@ iae-bit-counted κs a x s b ssf f end e =
 pub biae-in-ais : (κs : Lfts 1) (a : Dens κs level-at-kinds.ps) (x : LevelStands) (s : AtExit (endedOf 1 level-at-kinds.ps level-at-kinds.r) κs)
     → now (a .0) ≡ twice 7 → a .1 .0 ≡ false → a .1 .1 .1 .0 ≡ shown 11 7 → getD (now (s .0)) 40 0 ≡ 1
     → level-at-reads.Post κs a x s → ⊥
-unfolding bytesIn levelRecord levelNumbers statusFor statusOf statOf inRow upOf filterOf
+unfolding bytesIn levelRecord levelNumbers beiOf statusFor statusOf statOf inRow upOf filterOf
 biae-in-ais κs a x s b ssf f end e =
     let z : _≡_ {A = ℕ} 1 0 = sym end ∙ ap (λ (l : List ℕ). getD l 40 0) (rw (b, ssf, f) at (e .holds)) in
     omega arith

@@ -8,7 +8,7 @@ use lib.Dec.{eqb, leb}
 use lib.ListN.{length, getD}
 use Rattle.codec.specs.Over.{bytesIn}
 use Rattle.codec.specs.Pieces.{piece, joined}
-use Rattle.overhead.specs.Overhead.{farBlock}
+use Rattle.overhead.specs.Bei.{beiOf, isFar, isBiae}
 use Rattle.overhead.specs.declared.Field.{Field}
 use Rattle.filter.specs.Filter.{quiet, filterOf}
 use Rattle.filter.specs.Stat.{statOf}
@@ -16,6 +16,7 @@ use Rattle.filter.specs.declared.Stat.{Stat}
 use Rattle.alignment.specs.declared.Multi.{Multi}
 use Rattle.settings.specs.declared.Options.{Options}
 use Rattle.layer.specs.declared.Layer.{Layer}
+use Rattle.second.specs.Second.{countedOf}
 use Rattle.level.specs.declared.Status.the-variants.{Clear}
 use Rattle.level.specs.declared.LevelState.{LevelState}
 use Rattle.level.specs.declared.LevelStands.{LevelStands}
@@ -41,8 +42,8 @@ levelFrom h = record { layer = layerFrom h; stat = h .state .stat; biae = h .sta
 abbrev pub levelSecondFrom : Held → LevelSecond
 levelSecondFrom h = record { blocks = h .state .blocks; iae = h .state .iaeseen; biae = h .state .biaeseen }
 
--- A frame. STAT is forgotten in SSF, the trace and dBDI in SSF and dAIS, dBIAE in SSF, dAIS and dTIM; no block is counted in SSF, dAIS, dLTC, dOCI
--- and dLCK (level/specs/Level has the clauses).
+-- A frame. STAT is forgotten in SSF, the trace and dBDI in SSF and dAIS, dBIAE in SSF, dAIS and dTIM; no block is counted, and no violation
+-- added to the sum, in SSF, dAIS, dLTC, dOCI and dLCK (level/specs/Level has the clauses).
 
 abbrev pub statIn : List ℕ → Bool → Field → Stat
 statIn b ssf f = statOf (statAt b 41) ssf (f .stat)
@@ -60,7 +61,7 @@ iaeIn t tim = raisesIae (statusFor t) && not tim
 abbrev pub filtersIn : List ℕ → Bool → Bool → Field → Filters
 filtersIn w forget tim f = record {
   bdi = filterOf (filterAt (bytesIn 2 0 w) 0) 5 forget (f .bdi);
-  biae = filterOf (filterAt (bytesIn 2 4 w) 0) 3 (forget || tim) (eqb (f .bei) 11);
+  biae = filterOf (filterAt (bytesIn 2 4 w) 0) 3 (forget || tim) (isBiae (beiOf (f .bei)));
 }
 
 unfoldable pub levelNumbers : List ℕ → Stat → Bool → Bool → Bool → Bool → Field → ℕ → List ℕ
@@ -72,8 +73,13 @@ levelNumbers w t forget stops tim iae f violations =
     ∷ piece 2 (filterBytes (d .biae))
     ∷ piece 4 (statBytes t)
     ∷ piece 4 (flagsIn (stops || tim) (d .bdi .on) iae (d .biae .on) (bytesIn 4 10 w))
-    ∷ piece 7 (bytesIn 7 14 w)
-    ∷ piece 8 (countsIn (leb 1 violations && not stops) (farBlock (f .bei) && not stops) (bytesIn 8 21 w))
+    ∷ piece 3 (bytesIn 3 14 w)
+    ∷ piece 12
+    (countsIn
+    (leb 1 violations && not stops)
+    (isFar (beiOf (f .bei)) && not stops)
+    (countedOf (beiOf (f .bei)) stops)
+    (bytesIn 12 17 w))
     ∷ [])
 
 abbrev pub levelStood : List ℕ → Bool → Multi → Field → LevelStands

@@ -22,7 +22,7 @@ fn wide(x: u8) -> u32
     x as u32
 }
 
-// A level's other numbers after a frame: dBDI, dBIAE, STAT, and the second's flags and counts. The filter of a section's dIAE is not
+// A level's other numbers after a frame: dBDI, dBIAE, STAT, and the second's flags, counts and sum. The filter of a section's dIAE is not
 // written.
 fn level_numbers(
     w: &mut [u8],
@@ -37,12 +37,20 @@ fn level_numbers(
     requires { ⌜ length (now w) ≡ 29 ⌝ }
     ensures { λ r. ⌜ (r ≡ filtersIn (now (w .entry)) forget tim f) × (now (w .exit) ≡ levelNumbers (now (w .entry)) t forget stops tim iae f violations) ⌝ }
 {
-    let far = overhead::far_block(f.bei);
+    let read = overhead::bei_of(f.bei);
+    let far = overhead::is_far(read);
+    let mark = overhead::is_mark(read);
+    let more = second::counted(read, stops);
     let bdi = fields::filter_at(&mut w[0..2], 5, forget, f.bdi);
-    let biae = fields::filter_at(&mut w[4..6], 3, forget | tim, f.bei == 11);
+    let biae = fields::filter_at(&mut w[4..6], 3, forget | tim, mark);
     fields::lay_stat(&mut w[6..10], t);
     fields::flags_at(&mut w[10..14], stops | tim, bdi.on, iae, biae.on);
-    fields::counts_at(&mut w[21..29], (1 <= violations) & !stops, far & !stops);
+    fields::counts_at(
+        &mut w[17..29],
+        (1 <= violations) & !stops,
+        far & !stops,
+        more,
+    );
     Filters {
         bdi: bdi,
         biae: biae,
@@ -159,10 +167,10 @@ fn level_greatest() -> [u8; 64]
         0,
         0,
         0,
-        0,
-        0,
-        0,
-        0,
+        255,
+        255,
+        255,
+        255,
         255,
         255,
         255,

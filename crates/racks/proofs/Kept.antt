@@ -3,7 +3,7 @@ use Prim.Native.Nat.{_≤_}
 use mathlib.Core.Path.{refl}
 use mathlib.Core.Bool.{Bool, _||_}
 use native.Mathlib.Omega.{arith}
-use lib.Dec.{eqb}
+use Rattle.overhead.specs.Bei.{beiOf, isBiae}
 use Rattle.overhead.specs.declared.Field.{Field}
 use Rattle.filter.specs.Stat.{statOf}
 use Rattle.filter.proofs.Bounds.{filter-most, stat-most}
@@ -28,7 +28,7 @@ state-in s p ssf m f h i =
       value = t .0;
       run = t .1;
       accepted = t .2;
-      biae = filter-most (s .biae) 3 2 (forget || timOf l (p .mode) (p .names)) (eqb (f .bei) 11) (omega arith);
+      biae = filter-most (s .biae) 3 2 (forget || timOf l (p .mode) (p .names)) (isBiae (beiOf (f .bei))) (omega arith);
     }
 
 pub level-kept : (p : Options) → LevelKept p
@@ -48,7 +48,7 @@ level-kept p = record {
       accepted = i .state .accepted;
       biae = i .state .biae;
     };
-    blocks = record { near = omega arith; far = omega arith };
+    blocks = record { near = omega arith; far = omega arith; sum = omega arith };
   };
   fresh = λ i. record {
     options = i;
@@ -59,6 +59,6 @@ level-kept p = record {
       accepted = omega arith;
       biae = omega arith;
     };
-    blocks = record { near = omega arith; far = omega arith };
+    blocks = record { near = omega arith; far = omega arith; sum = omega arith };
   };
 }

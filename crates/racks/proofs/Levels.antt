@@ -4,14 +4,14 @@ use mathlib.Core.Bool.{Bool, _&&_, _||_, not}
 use mathlib.Core.List.{List, [], _∷_, _++_}
 use Prim.Native.Nat.{ℕ}
 use native.Mathlib.Omega.{arith}
-use lib.Dec.{eqb, leb}
+use lib.Dec.{leb}
 use lib.ListN.{length}
 use borrow.Author.Tests.{eq-eqb}
 use Rattle.answer.specs.Bits.{flag}
 use Rattle.codec.specs.Over.{bytesIn}
 use Rattle.codec.specs.Pieces.{joined}
 use Rattle.words.specs.Words.{le4}
-use Rattle.overhead.specs.Overhead.{farBlock}
+use Rattle.overhead.specs.Bei.{beiOf, isFar, isBiae}
 use Rattle.overhead.specs.declared.Field.{Field}
 use Rattle.filter.specs.declared.Filter.{Filter}
 use Rattle.filter.specs.declared.Stat.{Stat}
@@ -23,7 +23,7 @@ use Rattle.layer.specs.Layer.{layerOf, timOf}
 use Rattle.layer.specs.Steps.{parts}
 use Rattle.settings.specs.declared.Options.{Options}
 use Rattle.second.specs.declared.Blocks.{Blocks}
-use Rattle.second.specs.Second.{blocksOf}
+use Rattle.second.specs.Second.{countedOf, blocksOf}
 use Rattle.level.specs.declared.LevelState.{LevelState}
 use Rattle.level.specs.declared.LevelStands.{LevelStands}
 use Rattle.level.specs.declared.LevelSecond.{LevelSecond}
@@ -46,20 +46,20 @@ module _ (h : Held) (z : Sizes h) (fits : StateFits (h .state)) where
   -- what a frame adds to the second, by what stands after it
   abbrev blocksBy : Bool → Bool → Bool → Field → ℕ → Blocks
   blocksBy stops tim bdi f v =
-      blocksOf (h .state .blocks) (record { stopped = stops; near = leb 1 v; far = farBlock (f .bei); neards = stops || tim; fards = bdi })
+      blocksOf (h .state .blocks) (record { stopped = stops; near = leb 1 v; far = beiOf (f .bei); neards = stops || tim; fards = bdi })
 
   -- the level's record after a frame, by its layer and its STAT after it
   abbrev nextLevel : Layer → Stat → Bool → Field → ℕ → Held
   nextLevel l t ssf f v =
       let tim : Bool = timOf l (h .front .mode) (h .names) in
-      let biae : Filter = filterOf (h .state .biae) 3 (forgets ssf t || tim) (eqb (f .bei) 11) in
+      let biae : Filter = filterOf (h .state .biae) 3 (forgets ssf t || tim) (isBiae (beiOf (f .bei))) in
       heldOf (optionsFrom h) l (h .state .iae) biae t (blocksBy (stopsIn ssf t) tim (l .bdi .on) f v)
       (h .state .iaeseen || iaeIn t tim) (h .state .biaeseen || biae .on)
 
   abbrev filtersOf : Bool → Bool → Field → Filters
   filtersOf forget tim f = record {
     bdi = filterOf (h .state .bdi) 5 forget (f .bdi);
-    biae = filterOf (h .state .biae) 3 (forget || tim) (eqb (f .bei) 11);
+    biae = filterOf (h .state .biae) 3 (forget || tim) (isBiae (beiOf (f .bei)));
   }
 
   filters-are : (forget tim : Bool) (f : Field) → filtersIn (others h z) forget tim f ≡ filtersOf forget tim f
@@ -81,10 +81,10 @@ module _ (h : Held) (z : Sizes h) (fits : StateFits (h .state)) where
       let q : Filters → List ℕ = λ (x : Filters).
       filterBytes (x .bdi) ++ (filterBytes (h .state .iae) ++ (filterBytes (x .biae) ++ (statBytes t
       ++ (raised (stops || tim) (flag (h .state .blocks .neards)) ∷ raised (x .bdi .on) (flag (h .state .blocks .fards)) ∷ raised iae (flag (h .state .iaeseen)) ∷ raised (x .biae .on) (flag (h .state .biaeseen))
-      ∷ 0 ∷ 0 ∷ 0 ∷ 0 ∷ 0 ∷ 0 ∷ 0 ∷ (countsIn (leb 1 v && not stops) (farBlock (f .bei) && not stops) (le4 (h .state .blocks .near .0) ++ le4 (h .state .blocks .far .0)) ++ []))))) in
+      ∷ 0 ∷ 0 ∷ 0 ∷ (countsIn (leb 1 v && not stops) (isFar (beiOf (f .bei)) && not stops) (countedOf (beiOf (f .bei)) stops) (le4 (h .state .blocks .sum .0) ++ (le4 (h .state .blocks .near .0) ++ le4 (h .state .blocks .far .0))) ++ []))))) in
       ap q (filters-are forget tim f)
       ∙ ap (λ (r : List ℕ). filterBytes (d .bdi) ++ (filterBytes (h .state .iae) ++ (filterBytes (d .biae) ++ (statBytes t ++ r))))
-      (lasts-is (h .state .blocks) (h .state .iaeseen) (h .state .biaeseen) stops (leb 1 v) (farBlock (f .bei)) (stops || tim) (d .bdi .on) iae (d .biae .on) (fits .near) (fits .far))
+      (lasts-is (h .state .blocks) (h .state .iaeseen) (h .state .biaeseen) stops (leb 1 v) (beiOf (f .bei)) (stops || tim) (d .bdi .on) iae (d .biae .on) (fits .near) (fits .far) (fits .sum))
 
   module _ (ssf : Bool) (m : Multi) (f : Field) where
     abbrev t : Stat
@@ -138,7 +138,7 @@ module _ (h : Held) (z : Sizes h) (fits : StateFits (h .state)) where
           disabled = h .front .disabled;
           bdi = l .bdi .on;
           iae = iaeIn t u;
-          biae = filterOf (h .state .biae) 3 (forget || u) (eqb (f .bei) 11) .on;
+          biae = filterOf (h .state .biae) 3 (forget || u) (isBiae (beiOf (f .bei))) .on;
           deg = l .deg .on;
         }
 
@@ -176,7 +176,7 @@ sizes-of p s c i =
 pub fits-of : (p : Options) (s : LevelState) (c : LevelSecond) → LevelIn p s c → FrontFits (levelHeld p s c .front) × StateFits (levelHeld p s c .state)
 fits-of p s c i = (
   record { thr = omega arith; degm = omega arith; deg = omega arith },
-  record { equal = omega arith; bdi = omega arith; iae = omega arith; biae = omega arith; stat = omega arith; near = omega arith; far = omega arith },
+  record { equal = omega arith; bdi = omega arith; iae = omega arith; biae = omega arith; stat = omega arith; near = omega arith; far = omega arith; sum = omega arith },
 )
 
 -- a frame and a mark in it are those of the definitions

@@ -30,7 +30,7 @@ use Rattle.racks.specs.Racks.{levelBytes, LevelIn, SameLevel, LevelTrip}
 use Rattle.racks.proofs.Levels.{sizes-of, fits-of}
 
 abbrev levelState : List ℕ
-levelState = 1 ∷ 1 ∷ 3 ∷ 1 ∷ 4 ∷ 0 ∷ 0 ∷ 1 ∷ 2 ∷ 7 ∷ 3 ∷ 1 ∷ 7 ∷ 1 ∷ 1 ∷ 1 ∷ 1 ∷ (replicate 7 0 ++ replicate 8 255)
+levelState = 1 ∷ 1 ∷ 3 ∷ 1 ∷ 4 ∷ 0 ∷ 0 ∷ 1 ∷ 2 ∷ 7 ∷ 3 ∷ 1 ∷ 7 ∷ 1 ∷ 1 ∷ 1 ∷ 1 ∷ (replicate 3 0 ++ replicate 12 255)
 
 -- From a level in its ranges.
 

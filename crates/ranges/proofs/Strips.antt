@@ -42,9 +42,10 @@ unfolding layerRanged layerRangedBy
 layer-by l g h =
     let d = strip-byte l 0 4 4 h (omega arith) (omega arith) (omega arith) refl in
     let t = strip-word l 0 0 0 h (omega arith) (omega arith) (omega arith) refl in
+    let s = strip-word l 32 20 52 h (omega arith) (omega arith) (omega arith) refl in
     let n = strip-word l 32 24 56 h (omega arith) (omega arith) (omega arith) refl in
     let f = strip-word l 32 28 60 h (omega arith) (omega arith) (omega arith) refl in
-    rw (d, t, n, f)
+    rw (d, t, s, n, f)
 
 -- fewer bytes than a band read as zeros, and DEGM is no 0
 pub layer-short : (l g : List ℕ) → length l < 64 → false ≡ layerRanged g (bytesIn 64 0 l)

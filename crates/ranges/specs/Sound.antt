@@ -38,11 +38,11 @@ lineRangedBy w h a c =
     && (leb (wordAt a 20) 989 && (leb (wordAt a 24) 989 && (leb (wordAt a 28) 989 && countsRanged c))))
 
 -- A layer: its front (DEGThr, DEGM, trace mode, TIM action disabled, dDEG and its run), then its state. A section has no STAT, a path
--- no dIAE and no dBIAE: their bytes are spare there.
+-- no dIAE and no dBIAE: their bytes are spare there. The state's last three words are the sum, near and far blocks.
 abbrev pub layerGreatest : List ℕ → List ℕ → List ℕ
 layerGreatest own seen =
     (replicate 4 255 ++ (10 ∷ 3 ∷ 1 ∷ 1 ∷ 9 ∷ replicate 23 0))
-    ++ (1 ∷ 1 ∷ 3 ∷ 1 ∷ 4 ∷ (own ++ (1 ∷ 1 ∷ (seen ++ (replicate 7 0 ++ replicate 8 255)))))
+    ++ (1 ∷ 1 ∷ 3 ∷ 1 ∷ 4 ∷ (own ++ (1 ∷ 1 ∷ (seen ++ (replicate 3 0 ++ replicate 12 255)))))
 
 abbrev pub sectionGreatest : List ℕ
 sectionGreatest = layerGreatest (1 ∷ 4 ∷ 1 ∷ 2 ∷ 0 ∷ 0 ∷ 0 ∷ 0 ∷ []) (1 ∷ 1 ∷ [])
@@ -53,13 +53,15 @@ pathGreatest = layerGreatest (0 ∷ 0 ∷ 0 ∷ 0 ∷ 7 ∷ 3 ∷ 1 ∷ 7 ∷ []
 unfoldable pub layerRanged : List ℕ → List ℕ → Bool
 layerRanged greatest w =
     below greatest w && (leb 2 (getD w 4 0)
-    && (leb 1 (wordAt w 0) && (leb (wordAt w 0) 329492 && (leb (wordAt w 56) 400000 && leb (wordAt w 60) 400000))))
+    && (leb 1 (wordAt w 0)
+    && (leb (wordAt w 0) 329492 && (leb (wordAt w 52) 3200000 && (leb (wordAt w 56) 400000 && leb (wordAt w 60) 400000)))))
 
 -- the same, with the single numbers read from the two strips of w: the front f and the state s
 unfoldable pub layerRangedBy : List ℕ → List ℕ → List ℕ → List ℕ → Bool
 layerRangedBy greatest w f s =
     below greatest w && (leb 2 (getD f 4 0)
-    && (leb 1 (wordAt f 0) && (leb (wordAt f 0) 329492 && (leb (wordAt s 24) 400000 && leb (wordAt s 28) 400000))))
+    && (leb 1 (wordAt f 0)
+    && (leb (wordAt f 0) 329492 && (leb (wordAt s 20) 3200000 && (leb (wordAt s 24) 400000 && leb (wordAt s 28) 400000)))))
 
 -- refusal 17: "handed-in supervisor has a wrong length or a number beyond its range". The bytes of the twelve words are bytes too.
 unfoldable pub sound : List ℕ → Bool

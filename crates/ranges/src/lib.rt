@@ -145,10 +145,10 @@ fn section_greatest() -> [u8; 64]
         0,
         0,
         0,
-        0,
-        0,
-        0,
-        0,
+        255,
+        255,
+        255,
+        255,
         255,
         255,
         255,
@@ -216,10 +216,10 @@ fn path_greatest() -> [u8; 64]
         0,
         0,
         0,
-        0,
-        0,
-        0,
-        0,
+        255,
+        255,
+        255,
+        255,
         255,
         255,
         255,
@@ -267,9 +267,13 @@ fn is_layer(greatest: [u8; 64], w: [u8; 64], f: [u8; 32], s: [u8; 32]) -> bool
 {
     let small = is_below(greatest, w);
     let thr = word_of(f[0], f[1], f[2], f[3]);
+    let sum = word_of(s[20], s[21], s[22], s[23]);
     let near = word_of(s[24], s[25], s[26], s[27]);
     let far = word_of(s[28], s[29], s[30], s[31]);
-    small & ((2 <= f[4]) & ((1 <= thr) & ((thr <= 329492) & ((near <= 400000) & (far <= 400000)))))
+    small
+        & ((2 <= f[4])
+            & ((1 <= thr)
+                & ((thr <= 329492) & ((sum <= 3200000) & ((near <= 400000) & (far <= 400000))))))
 }
 
 // The line of lent bytes: its band, and the two strips of it.

@@ -97,7 +97,7 @@ pub record Going (from : Reading) (s d out : List ℕ) (at put : ℕ) (st : Stat
   pub text : over d 0 (linesOf (from .office) (from .bins) (readFrom from s .told)) ≡ over out put (linesOf (from .office) b (scanFrom (from .tell) (drop at s) (from .at + at) frames st .told))
   pub place : length (linesOf (from .office) (from .bins) (readFrom from s .told)) ≡ put + length (linesOf (from .office) b (scanFrom (from .tell) (drop at s) (from .at + at) frames st .told))
   pub left : openOver (from .bins) (readFrom from s .told) ≡ openOver b (scanFrom (from .tell) (drop at s) (from .at + at) frames st .told)
-  pub room : 4 * put ≤ 928 * at
+  pub room : 4 * put ≤ 1094 * at
   pub counted : Counted (from .at + at) frames st
 
 pub going-start : (from : Reading) (s d : List ℕ) → Sound from → Going from s d d 0 0 (from .state) (from .frames) (from .bins)
@@ -120,7 +120,7 @@ module _ (from : Reading) (s d out : List ℕ) (at put : ℕ) (st : State) (fram
 
   -- something was told, and its line put
   going-line : (note : Note) (p : ℕ) (out₂ : List ℕ) → scanAfter (from .tell) (from .at) frames st s r ≡ before (note ∷ []) (onFrom (from .tell) (from .at) frames s r)
-      → put ≤ length out → 4 * p ≤ 928 * r .at → p ≡ put + length (lineBy (from .office) b note) → out₂ ≡ over out put (lineBy (from .office) b note) → length out₂ ≡ length out
+      → put ≤ length out → 4 * p ≤ 1094 * r .at → p ≡ put + length (lineBy (from .office) b note) → out₂ ≡ over out put (lineBy (from .office) b note) → length out₂ ≡ length out
       → Going from s d out₂ (r .at) p (r .state) (frames + r .frames) (openAfter b note)
   unfolding linesOf openOver
   going-line note p out₂ told roomy room ep eo el =
@@ -146,7 +146,7 @@ module _ (from : Reading) (s d out : List ℕ) (at put : ℕ) (st : State) (fram
 
   -- of k bytes at least, and the line has its room
   pub going-on : (note : Note) (room k p : ℕ) (out₂ : List ℕ) → scanAfter (from .tell) (from .at) frames st s r ≡ before (note ∷ []) (onFrom (from .tell) (from .at) frames s r)
-      → at + k ≤ r .at → 4 * room ≤ 928 * k → length s ≤ 4096 → 952216 ≤ length d
+      → at + k ≤ r .at → 4 * room ≤ 1094 * k → length s ≤ 4096 → 1122532 ≤ length d
       → p ≡ put + length (fitted (length out) put room (lineBy (from .office) b note)) → p ≤ put + room → out₂ ≡ over out put (fitted (length out) put room (lineBy (from .office) b note)) → length out₂ ≡ length out
       → Going from s d out₂ (r .at) p (r .state) (frames + r .frames) (openAfter b note)
   going-on note room k p out₂ told on little short big ep few eo el =
@@ -157,7 +157,7 @@ module _ (from : Reading) (s d out : List ℕ) (at put : ℕ) (st : State) (fram
 
   -- whose line is empty
   going-quiet : (note : Note) (room p : ℕ) (out₂ : List ℕ) → scanAfter (from .tell) (from .at) frames st s r ≡ before (note ∷ []) (onFrom (from .tell) (from .at) frames s r)
-      → lineBy (from .office) b note ≡ [] → length s ≤ 4096 → 952216 ≤ length d
+      → lineBy (from .office) b note ≡ [] → length s ≤ 4096 → 1122532 ≤ length d
       → p ≡ put + length (fitted (length out) put room (lineBy (from .office) b note)) → out₂ ≡ over out put (fitted (length out) put room (lineBy (from .office) b note)) → length out₂ ≡ length out
       → Going from s d out₂ (r .at) p (r .state) (frames + r .frames) (openAfter b note)
   unfolding fitted
@@ -169,18 +169,18 @@ module _ (from : Reading) (s d out : List ℕ) (at put : ℕ) (st : State) (fram
       going-line note p out₂ told (omega (arith, g .room, g .long, h .inside, h .later)) (omega (arith, ep', zero, g .room, h .later)) ep' (eo ∙ ap (over out put) f) el
 
   -- a second was reported
-  pub going-reported : (p : ℕ) (out₂ : List ℕ) → r .stop ≡ stop.Reported → length s ≤ 4096 → 952216 ≤ length d
-      → p ≡ put + length (fitted (length out) put 928 (reportedText (from .office) b (r .state))) → p ≤ put + 928
-      → out₂ ≡ over out put (fitted (length out) put 928 (reportedText (from .office) b (r .state))) → length out₂ ≡ length out
+  pub going-reported : (p : ℕ) (out₂ : List ℕ) → r .stop ≡ stop.Reported → length s ≤ 4096 → 1122532 ≤ length d
+      → p ≡ put + length (fitted (length out) put 1094 (reportedText (from .office) b (r .state))) → p ≤ put + 1094
+      → out₂ ≡ over out put (fitted (length out) put 1094 (reportedText (from .office) b (r .state))) → length out₂ ≡ length out
       → Going from s d out₂ (r .at) p (r .state) (frames + r .frames) (openedBy b (r .state))
   going-reported p out₂ c short big ep few eo el =
       let t = sym (reported-by b (r .state) (run-sound .figures) (from .office)) in
       subst (λ (x : Bins). Going from s d out₂ (r .at) p (r .state) (frames + r .frames) x) (opened-by b (r .state) (run-sound .figures))
-      (going-on (second (lastListed (r .state))) 928 4 p out₂ (after-reported (from .tell) (from .at) frames st s r c) (run-stands .further c) (omega arith) short big
-      (ep ∙ ap (λ (v : List ℕ). put + length (fitted (length out) put 928 v)) t) few (eo ∙ ap (λ (v : List ℕ). over out put (fitted (length out) put 928 v)) t) el)
+      (going-on (second (lastListed (r .state))) 1094 4 p out₂ (after-reported (from .tell) (from .at) frames st s r c) (run-stands .further c) (omega arith) short big
+      (ep ∙ ap (λ (v : List ℕ). put + length (fitted (length out) put 1094 v)) t) few (eo ∙ ap (λ (v : List ℕ). over out put (fitted (length out) put 1094 v)) t) el)
 
   -- a record was told
-  pub going-told : (p : ℕ) (out₂ : List ℕ) → r .stop ≡ stop.Told → length s ≤ 4096 → 952216 ≤ length d
+  pub going-told : (p : ℕ) (out₂ : List ℕ) → r .stop ≡ stop.Told → length s ≤ 4096 → 1122532 ≤ length d
       → p ≡ put + length (fitted (length out) put 2560 (lineFor (change (frames + r .frames) st (r .state)))) → p ≤ put + 2560
       → out₂ ≡ over out put (fitted (length out) put 2560 (lineFor (change (frames + r .frames) st (r .state)))) → length out₂ ≡ length out
       → Going from s d out₂ (r .at) p (r .state) (frames + r .frames) b

@@ -22,10 +22,10 @@ use Rattle.reading.proofs.Lines.{Gathered, gatheredOf}
 use Rattle.reading.specs.declared.Turned.{Turned}
 
 -- the last lines, where there is room for them
-pub ending-put : (d : List ℕ) (at r : ℕ) (o v : List ℕ) → at + 1944 ≤ length d → r ≡ at + length (fitted (length d) at 1944 v) → o ≡ over d at (fitted (length d) at 1944 v)
+pub ending-put : (d : List ℕ) (at r : ℕ) (o v : List ℕ) → at + 2276 ≤ length d → r ≡ at + length (fitted (length d) at 2276 v) → o ≡ over d at (fitted (length d) at 2276 v)
     → (r ≡ at + length v) × (o ≡ over d at v)
 ending-put d at r o v h e t =
-    let f : fitted (length d) at 1944 v ≡ v = fitted-is (length d) at 1944 v h in
+    let f : fitted (length d) at 2276 v ≡ v = fitted-is (length d) at 2276 v h in
     (e ∙ ap (λ (w : List ℕ). at + length w) f, t ∙ ap (over d at) f)
 
 -- what `turn` answers

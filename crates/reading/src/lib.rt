@@ -94,7 +94,7 @@ fn goes_on(refusal: u8) -> bool
 fn turn(from: Reading, s: &[u8], ended: bool, out: &mut [u8]) -> Turned
     requires { ⌜ Sound from ⌝ }
     requires { ⌜ length (now s) ≤ 4096 ⌝ }
-    requires { ⌜ 952216 ≤ length (now out) ⌝ }
+    requires { ⌜ 1122532 ≤ length (now out) ⌝ }
     ensures { λ r. ⌜ (r ≡ turnOf from (now (s .entry)) ended) × (now (out .exit) ≡ over (now (out .entry)) 0 (writtenOf from (now (s .entry)) ended)) ⌝ }
 {
     let mut at = 0;
@@ -176,7 +176,7 @@ fn refill(from: Refilled, buf: &mut [u8], out: &mut [u8]) -> Refilled
     requires { ⌜ Sound (from .reading) ⌝ }
     requires { ⌜ from .held < 83 ⌝ }
     requires { ⌜ length (now buf) ≡ 4096 ⌝ }
-    requires { ⌜ 952216 ≤ length (now out) ⌝ }
+    requires { ⌜ 1122532 ≤ length (now out) ⌝ }
     ensures { λ r. ⌜ Refill (from .reading) (from .held) (now (buf .entry)) (now (buf .exit)) (now (out .entry)) (now (out .exit)) r ⌝ }
 {
     let reading = from.reading;
@@ -221,7 +221,7 @@ fn started(tell: bool, office: bool) -> Refilled
 // frames.
 fn pump(tell: bool, office: bool, buf: &mut [u8], out: &mut [u8])
     requires { ⌜ length (now buf) ≡ 4096 ⌝ }
-    requires { ⌜ 952216 ≤ length (now out) ⌝ }
+    requires { ⌜ 1122532 ≤ length (now out) ⌝ }
 {
     let mut r = started(tell, office);
     let mut ended = false;
@@ -232,10 +232,10 @@ fn pump(tell: bool, office: bool, buf: &mut [u8], out: &mut [u8])
 }
 
 // Room for the lines that 4,096 bytes of input can give: 1,024 seconds, the pending one, and the last two.
-fn text_buffer() -> [u8; 1048576]
-    ensures { λ r. ⌜ 1048576 ≡ length r ⌝ }
+fn text_buffer() -> [u8; 1126400]
+    ensures { λ r. ⌜ 1126400 ≡ length r ⌝ }
 {
-    [0; 1048576]
+    [0; 1126400]
 }
 
 // A program from its start to its end: `ledger` tells the seconds, `explain` every record, `quarters` is for the office.

@@ -10,11 +10,11 @@ use Rattle.codec.specs.Over.{bytesIn}
 use Rattle.codec.specs.Pieces.{Piece, piece, joined, Sized}
 use Rattle.codec.proofs.Pieces.{bytes-piece, length-joined}
 use Rattle.codec.proofs.Overs.{laid-room}
-use Rattle.words.specs.Words.{le4, flat, countedIn}
+use Rattle.words.specs.Words.{le4, flat, countedIn, addedIn}
 use Rattle.words.proofs.Words.{length-flat, word-in-flat, over-in-flat}
 use Rattle.filter.specs.declared.Filter.{Filter}
 use Rattle.filter.specs.declared.Stat.{Stat}
-use Rattle.filter.specs.Filter.{quiet, upOf, filterOf}
+use Rattle.filter.specs.Filter.{quiet, upOf, addOf, filterOf}
 use Rattle.alignment.specs.declared.Multi.{Multi}
 use Rattle.layer.specs.declared.Layer.{Layer}
 use Rattle.layer.specs.Layer.{layerOf, timOf}
@@ -28,7 +28,7 @@ use Rattle.history.specs.Ranges.{Ranged}
 use Rattle.supervisor.specs.declared.Supervisor.{Supervisor}
 use Rattle.cycle.specs.declared.Cycle.{Cycle}
 use Rattle.cycle.specs.Cycle.{cycleIn, cycleBytes, traced, cycleStep, timIn, layerStep, timAfter}
-use Rattle.fields.specs.Fields.{raised, countsIn}
+use Rattle.fields.specs.Fields.{raised, countedBy, countsIn}
 
 -- Small laws.
 
@@ -52,15 +52,31 @@ counted-flat ws i n h b =
     let e = word-in-flat ws i b h in
     rw e (laid-room (flat ws) (i * 4) (le4 (upOf (getD ws i 0) n)) (omega (arith, length-flat ws)) ∙ over-in-flat ws i (upOf (getD ws i 0) n) h)
 
--- two counts
-pub counts-is : (n f : ℕ) (a b : Bool) → n < 4294967296 → f < 4294967296
-    → countsIn a b (le4 n ++ le4 f) ≡ le4 (cond a (upOf n 400000) n) ++ le4 (cond b (upOf f 400000) f)
+-- and added to
+pub added-flat : (ws : List ℕ) (i more n : ℕ) → i < length ws → getD ws i 0 < 4294967296 → addedIn (flat ws) i more n ≡ flat (set ws i (addOf (getD ws i 0) more n))
+unfolding addedIn
+added-flat ws i more n h b =
+    let e = word-in-flat ws i b h in
+    rw e (laid-room (flat ws) (i * 4) (le4 (addOf (getD ws i 0) more n)) (omega (arith, length-flat ws)) ∙ over-in-flat ws i (addOf (getD ws i 0) more n) h)
+
+-- two counts behind a sum
+counted-two : (x n f : ℕ) (a b : Bool) → n < 4294967296 → f < 4294967296
+    → countedBy b 2 (countedBy a 1 (flat (x ∷ n ∷ f ∷ []))) ≡ flat (x ∷ cond a (upOf n 400000) n ∷ cond b (upOf f 400000) f ∷ [])
+counted-two x n f true true h k =
+    ap (λ (w : List ℕ). countedIn w 2 400000) (counted-flat (x ∷ n ∷ f ∷ []) 1 400000 (omega arith) h)
+    ∙ counted-flat (x ∷ upOf n 400000 ∷ f ∷ []) 2 400000 (omega arith) k
+counted-two x n f true false h k = counted-flat (x ∷ n ∷ f ∷ []) 1 400000 (omega arith) h
+counted-two x n f false true h k = counted-flat (x ∷ n ∷ f ∷ []) 2 400000 (omega arith) k
+counted-two x n f false false h k = refl
+
+-- the sum and the two counts
+pub counts-is : (s n f more : ℕ) (a b : Bool) → s < 4294967296 → n < 4294967296 → f < 4294967296
+    → countsIn a b more (le4 s ++ (le4 n ++ le4 f))
+    ≡ le4 (addOf s more 3200000) ++ (le4 (cond a (upOf n 400000) n) ++ le4 (cond b (upOf f 400000) f))
 unfolding flat
-counts-is n f true true h k =
-    ap (λ (w : List ℕ). countedIn w 1 400000) (counted-flat (n ∷ f ∷ []) 0 400000 (omega arith) h) ∙ counted-flat (upOf n 400000 ∷ f ∷ []) 1 400000 (omega arith) k
-counts-is n f true false h k = counted-flat (n ∷ f ∷ []) 0 400000 (omega arith) h
-counts-is n f false true h k = counted-flat (n ∷ f ∷ []) 1 400000 (omega arith) k
-counts-is n f false false h k = refl
+counts-is s n f more a b g h k =
+    ap (λ (w : List ℕ). countedBy b 2 (countedBy a 1 w)) (added-flat (s ∷ n ∷ f ∷ []) 0 more 3200000 (omega arith) g)
+    ∙ counted-two (addOf s more 3200000) n f a b h k
 
 -- three lists before a fourth
 pub before-rest : (a g p n : List ℕ) → a ++ (g ++ (p ++ n)) ≡ (a ++ (g ++ (p ++ []))) ++ n
@@ -166,11 +182,11 @@ layer-is l forget inmulti number tti bdi = sym (parts-step l forget inmulti numb
 pub section-fits : (s : Supervisor) → Ranged s → FrontFits (sectionHeld s .front) × StateFits (sectionHeld s .state)
 section-fits s r = (
   record { thr = omega arith; degm = omega arith; deg = omega arith },
-  record { equal = omega arith; bdi = omega arith; iae = omega arith; biae = omega arith; stat = omega arith; near = omega arith; far = omega arith },
+  record { equal = omega arith; bdi = omega arith; iae = omega arith; biae = omega arith; stat = omega arith; near = omega arith; far = omega arith; sum = omega arith },
 )
 
 pub path-fits : (s : Supervisor) → Ranged s → FrontFits (pathHeld s .front) × StateFits (pathHeld s .state)
 path-fits s r = (
   record { thr = omega arith; degm = omega arith; deg = omega arith },
-  record { equal = omega arith; bdi = omega arith; iae = omega arith; biae = omega arith; stat = omega arith; near = omega arith; far = omega arith },
+  record { equal = omega arith; bdi = omega arith; iae = omega arith; biae = omega arith; stat = omega arith; near = omega arith; far = omega arith; sum = omega arith },
 )

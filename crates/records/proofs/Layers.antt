@@ -3,14 +3,15 @@ use Prim.Native.Nat.{ℕ, _+_, _<_}
 use mathlib.Core.Path.{_≡_, refl, sym, ap, _∙_}
 use mathlib.Core.Bool.{Bool, true, false, cond, _&&_, _||_, not}
 use mathlib.Core.List.{List, [], _∷_, _++_}
-use lib.Dec.{eqb, leb}
+use lib.Dec.{leb}
 use lib.ListN.{length}
 use borrow.Author.Tests.{eq-eqb}
 use Rattle.answer.specs.Bits.{flag}
 use Rattle.codec.specs.Over.{bytesIn}
 use Rattle.codec.specs.Pieces.{joined}
 use Rattle.words.specs.Words.{le4}
-use Rattle.overhead.specs.Overhead.{farBlock}
+use Rattle.overhead.specs.Bei.{beiOf, pathBei, isFar, isBiae}
+use Rattle.overhead.specs.declared.Bei.{Bei}
 use Rattle.overhead.specs.declared.Field.{Field}
 use Rattle.filter.specs.declared.Filter.{Filter}
 use Rattle.filter.specs.declared.Stat.{Stat}
@@ -24,7 +25,7 @@ use Rattle.layer.specs.Steps.{parts}
 use Rattle.second.specs.declared.Blocks.{Blocks}
 use Rattle.second.specs.declared.Near.{Near}
 use Rattle.second.specs.declared.Far.{Far}
-use Rattle.second.specs.Second.{nearOf, farOf, blocksOf}
+use Rattle.second.specs.Second.{nearOf, farOf, sumOf, countedOf, blocksOf}
 use Rattle.causes.specs.declared.SectionStands.{SectionStands}
 use Rattle.causes.specs.declared.PathStands.{PathStands}
 use Rattle.numbers.specs.Numbers.{on, frontBytes, stateBytes}
@@ -49,27 +50,28 @@ unfolding farOf
 far-number n true = refl
 far-number n false = refl
 
--- the last 19 bytes of a state strip: the second's flags, spare bytes and counts
+-- the last 19 bytes of a state strip: the second's flags, spare bytes, sum and counts
 abbrev pub lasts : Blocks → Bool → Bool → List ℕ
 lasts b i j =
     flag (b .neards) ∷ flag (b .fards) ∷ flag i ∷ flag j
-    ∷ 0 ∷ 0 ∷ 0 ∷ 0 ∷ 0 ∷ 0 ∷ 0 ∷ (le4 (b .near .0) ++ le4 (b .far .0))
+    ∷ 0 ∷ 0 ∷ 0 ∷ (le4 (b .sum .0) ++ (le4 (b .near .0) ++ le4 (b .far .0)))
 
 -- the same after a frame, from the bytes
-pub lasts-is : (b : Blocks) (i j stopped near far ds fds u v : Bool) → b .near .0 < 4294967296 → b .far .0 < 4294967296
+pub lasts-is : (b : Blocks) (i j stopped near : Bool) (far : Bei) (ds fds u v : Bool)
+    → b .near .0 < 4294967296 → b .far .0 < 4294967296 → b .sum .0 < 4294967296
     → raised ds (flag (b .neards)) ∷ raised fds (flag (b .fards)) ∷ raised u (flag i) ∷ raised v (flag j)
-    ∷ 0 ∷ 0 ∷ 0 ∷ 0 ∷ 0 ∷ 0 ∷ 0 ∷ (countsIn (near && not stopped) (far && not stopped) (le4 (b .near .0) ++ le4 (b .far .0)) ++ [])
+    ∷ 0 ∷ 0 ∷ 0 ∷ (countsIn (near && not stopped) (isFar far && not stopped) (countedOf far stopped) (le4 (b .sum .0) ++ (le4 (b .near .0) ++ le4 (b .far .0))) ++ [])
     ≡ lasts (blocksOf b (record { stopped = stopped; near = near; far = far; neards = ds; fards = fds })) (i || u) (j || v)
-unfolding blocksOf
-lasts-is b i j stopped near far ds fds u v h k =
+unfolding blocksOf sumOf
+lasts-is b i j stopped near far ds fds u v h k g =
     rw (
       raise-flag (b .neards) ds,
       raise-flag (b .fards) fds,
       raise-flag i u,
       raise-flag j v,
-      counts-is (b .near .0) (b .far .0) (near && not stopped) (far && not stopped) h k,
+      counts-is (b .sum .0) (b .near .0) (b .far .0) (countedOf far stopped) (near && not stopped) (isFar far && not stopped) g h k,
       near-number (b .near) (near && not stopped),
-      far-number (b .far) (far && not stopped),
+      far-number (b .far) (isFar far && not stopped),
     )
 
 module _ (h : Held) (z : Sizes h) (fits : StateFits (h .state)) where
@@ -78,16 +80,16 @@ module _ (h : Held) (z : Sizes h) (fits : StateFits (h .state)) where
   nextSection l ssf f sm =
       let tim : Bool = timOf l (h .front .mode) (h .names) in
       let iae : Filter = filterOf (h .state .iae) 5 (ssf || tim) (f .iae) in
-      let biae : Filter = filterOf (h .state .biae) 3 (ssf || tim) (eqb (f .bei) 11) in
+      let biae : Filter = filterOf (h .state .biae) 3 (ssf || tim) (isBiae (beiOf (f .bei))) in
       heldOf (optionsFrom h) l iae biae (h .state .stat)
-      (blocksOf (h .state .blocks) (record { stopped = ssf; near = leb 1 sm; far = farBlock (f .bei); neards = ssf || tim; fards = l .bdi .on }))
+      (blocksOf (h .state .blocks) (record { stopped = ssf; near = leb 1 sm; far = beiOf (f .bei); neards = ssf || tim; fards = l .bdi .on }))
       (h .state .iaeseen || iae .on) (h .state .biaeseen || biae .on)
 
   abbrev pub filtersOf : Bool → Bool → Field → Filtered
   filtersOf ssf tim f = record {
     bdi = filterOf (h .state .bdi) 5 ssf (f .bdi);
     iae = filterOf (h .state .iae) 5 (ssf || tim) (f .iae);
-    biae = filterOf (h .state .biae) 3 (ssf || tim) (eqb (f .bei) 11);
+    biae = filterOf (h .state .biae) 3 (ssf || tim) (isBiae (beiOf (f .bei)));
   }
 
   filters-are : (ssf tim : Bool) (f : Field) → sectionFilters (bytesIn 6 0 (others h z)) ssf tim f ≡ filtersOf ssf tim f
@@ -99,17 +101,17 @@ module _ (h : Held) (z : Sizes h) (fits : StateFits (h .state)) where
       → let d : Filtered = filtersOf ssf tim f in
       sectionNumbers (others h z) ssf tim f sm
       ≡ filteredBytes d ++ (statBytes (h .state .stat)
-      ++ lasts (blocksOf (h .state .blocks) (record { stopped = ssf; near = leb 1 sm; far = farBlock (f .bei); neards = ssf || tim; fards = d .bdi .on })) (h .state .iaeseen || d .iae .on) (h .state .biaeseen || d .biae .on))
+      ++ lasts (blocksOf (h .state .blocks) (record { stopped = ssf; near = leb 1 sm; far = beiOf (f .bei); neards = ssf || tim; fards = d .bdi .on })) (h .state .iaeseen || d .iae .on) (h .state .biaeseen || d .biae .on))
   unfolding sectionNumbers bytesIn
   numbers-are ssf tim f sm =
       let d : Filtered = filtersOf ssf tim f in
       let q : Filtered → List ℕ = λ (x : Filtered).
       filteredBytes x ++ (statBytes (h .state .stat)
       ++ (raised (ssf || tim) (flag (h .state .blocks .neards)) ∷ raised (x .bdi .on) (flag (h .state .blocks .fards)) ∷ raised (x .iae .on) (flag (h .state .iaeseen)) ∷ raised (x .biae .on) (flag (h .state .biaeseen))
-      ∷ 0 ∷ 0 ∷ 0 ∷ 0 ∷ 0 ∷ 0 ∷ 0 ∷ (countsIn (leb 1 sm && not ssf) (farBlock (f .bei) && not ssf) (le4 (h .state .blocks .near .0) ++ le4 (h .state .blocks .far .0)) ++ []))) in
+      ∷ 0 ∷ 0 ∷ 0 ∷ (countsIn (leb 1 sm && not ssf) (isFar (beiOf (f .bei)) && not ssf) (countedOf (beiOf (f .bei)) ssf) (le4 (h .state .blocks .sum .0) ++ (le4 (h .state .blocks .near .0) ++ le4 (h .state .blocks .far .0))) ++ []))) in
       ap q (filters-are ssf tim f)
       ∙ ap (λ (r : List ℕ). filteredBytes d ++ (statBytes (h .state .stat) ++ r))
-      (lasts-is (h .state .blocks) (h .state .iaeseen) (h .state .biaeseen) ssf (leb 1 sm) (farBlock (f .bei)) (ssf || tim) (d .bdi .on) (d .iae .on) (d .biae .on) (fits .near) (fits .far))
+      (lasts-is (h .state .blocks) (h .state .iaeseen) (h .state .biaeseen) ssf (leb 1 sm) (beiOf (f .bei)) (ssf || tim) (d .bdi .on) (d .iae .on) (d .biae .on) (fits .near) (fits .far) (fits .sum))
 
   module _ (ssf : Bool) (m : Multi) (f : Field) where
     abbrev bytes : List ℕ
@@ -153,7 +155,7 @@ module _ (h : Held) (z : Sizes h) (fits : StateFits (h .state)) where
           disabled = h .front .disabled;
           bdi = l .bdi .on;
           iae = filterOf (h .state .iae) 5 (ssf || tim) (f .iae) .on;
-          biae = filterOf (h .state .biae) 3 (ssf || tim) (eqb (f .bei) 11) .on;
+          biae = filterOf (h .state .biae) 3 (ssf || tim) (isBiae (beiOf (f .bei))) .on;
           deg = l .deg .on;
         }
 
@@ -184,7 +186,7 @@ module _ (h : Held) (z : Sizes h) (fits : StateFits (h .state)) where
   nextPath l t ssf f pm =
       let tim : Bool = timOf l (h .front .mode) (h .names) in
       heldOf (optionsFrom h) l (h .state .iae) (h .state .biae) t
-      (blocksOf (h .state .blocks) (record { stopped = pathStops ssf t; near = leb 1 pm; far = farBlock (f .bei); neards = pathStops ssf t || tim; fards = l .bdi .on }))
+      (blocksOf (h .state .blocks) (record { stopped = pathStops ssf t; near = leb 1 pm; far = pathBei (f .bei); neards = pathStops ssf t || tim; fards = l .bdi .on }))
       (h .state .iaeseen) (h .state .biaeseen)
 
   -- STAT after the frame
@@ -207,18 +209,18 @@ module _ (h : Held) (z : Sizes h) (fits : StateFits (h .state)) where
       → let bdi : Filter = filterOf (h .state .bdi) 5 forget (f .bdi) in
       pathNumbers (others h z) t forget stops tim f pm
       ≡ filterBytes bdi ++ (filterBytes (h .state .iae) ++ (filterBytes (h .state .biae) ++ (statBytes t
-      ++ lasts (blocksOf (h .state .blocks) (record { stopped = stops; near = leb 1 pm; far = farBlock (f .bei); neards = stops || tim; fards = bdi .on })) (h .state .iaeseen) (h .state .biaeseen))))
+      ++ lasts (blocksOf (h .state .blocks) (record { stopped = stops; near = leb 1 pm; far = pathBei (f .bei); neards = stops || tim; fards = bdi .on })) (h .state .iaeseen) (h .state .biaeseen))))
   unfolding pathNumbers bytesIn
   path-numbers-are t forget stops tim f pm =
       let bdi : Filter = filterOf (h .state .bdi) 5 forget (f .bdi) in
-      let b : Blocks = blocksOf (h .state .blocks) (record { stopped = stops; near = leb 1 pm; far = farBlock (f .bei); neards = stops || tim; fards = bdi .on }) in
+      let b : Blocks = blocksOf (h .state .blocks) (record { stopped = stops; near = leb 1 pm; far = pathBei (f .bei); neards = stops || tim; fards = bdi .on }) in
       let q : Filter → List ℕ = λ (x : Filter).
       filterBytes x ++ (filterBytes (h .state .iae) ++ (filterBytes (h .state .biae) ++ (statBytes t
       ++ (raised (stops || tim) (flag (h .state .blocks .neards)) ∷ raised (x .on) (flag (h .state .blocks .fards)) ∷ raised false (flag (h .state .iaeseen)) ∷ raised false (flag (h .state .biaeseen))
-      ∷ 0 ∷ 0 ∷ 0 ∷ 0 ∷ 0 ∷ 0 ∷ 0 ∷ (countsIn (leb 1 pm && not stops) (farBlock (f .bei) && not stops) (le4 (h .state .blocks .near .0) ++ le4 (h .state .blocks .far .0)) ++ []))))) in
+      ∷ 0 ∷ 0 ∷ 0 ∷ (countsIn (leb 1 pm && not stops) (isFar (pathBei (f .bei)) && not stops) (countedOf (pathBei (f .bei)) stops) (le4 (h .state .blocks .sum .0) ++ (le4 (h .state .blocks .near .0) ++ le4 (h .state .blocks .far .0))) ++ []))))) in
       ap q (bdi-is forget f)
       ∙ ap (λ (r : List ℕ). filterBytes bdi ++ (filterBytes (h .state .iae) ++ (filterBytes (h .state .biae) ++ (statBytes t ++ r))))
-      (lasts-is (h .state .blocks) (h .state .iaeseen) (h .state .biaeseen) stops (leb 1 pm) (farBlock (f .bei)) (stops || tim) (bdi .on) false false (fits .near) (fits .far)
+      (lasts-is (h .state .blocks) (h .state .iaeseen) (h .state .biaeseen) stops (leb 1 pm) (pathBei (f .bei)) (stops || tim) (bdi .on) false false (fits .near) (fits .far) (fits .sum)
       ∙ ap (λ (i : Bool). lasts b i (h .state .biaeseen || false)) (or-false (h .state .iaeseen))
       ∙ ap (λ (j : Bool). lasts b (h .state .iaeseen) j) (or-false (h .state .biaeseen)))
 

@@ -18,7 +18,7 @@ use Rattle.history.proofs.Ledger.{mark-figures}
 use Rattle.page.specs.Page as page
 use Rattle.page.proofs.Back.{sup, AcceptedBack}
 use Rattle.page.proofs.Seconds.{seconds-are, figures-are, iae-is as section-iae, biae-is as section-biae}
-use Rattle.tandem.specs.Levels.{blankLevel, fourOf, levelFigures, levelAt}
+use Rattle.tandem.specs.Levels.{blankLevel, fiveOf, levelFigures, levelAt}
 use Rattle.tandem.specs.Tandem.{freshTandem, markedOf}
 use Rattle.tandem.specs.declared.Level.{Level}
 use Rattle.tandem.specs.declared.Tandem.{Tandem}
@@ -30,16 +30,16 @@ use Rattle.sheet.specs.Sheet.{Provisioned, never, with, provisioned, reached}
 use Rattle.sheet.proofs.Own.{Is}
 use Rattle.sheet.proofs.Seconds.{iae-is, biae-is}
 use Rattle.sheet.proofs.Sheet.{after-calls, level-second, level-other}
-use Rattle.late.specs.Late.{sectionErred, levelErred, levelsErred, voidFour, voidLevels, voided}
+use Rattle.late.specs.Late.{sectionErred, levelErred, levelsErred, voidFive, voidLevels, voided}
 use Rattle.late.specs.declared.Erred.{Erred}
-use Rattle.reports.specs.Reports.{historyOf, plainOf, marksIn, Next, not-yet, closes, sectionFour, levelFour, groupBy, groupsFrom, reportOf}
+use Rattle.reports.specs.Reports.{historyOf, plainOf, marksIn, Next, not-yet, closes, sectionFive, levelFour, levelSum, groupBy, groupsFrom, reportOf}
 use Rattle.reports.proofs.Lists.{marks-plain, provisioned-stays}
 
--- four figures for each level
-four-long : (p : Settings) (n : ℕ) (w : Provisioned) (cs : List LevelCall) (next : Next) → length (groupBy p n w cs next) ≡ 4
+-- five figures for each level
+pub five-long : (p : Settings) (n : ℕ) (w : Provisioned) (cs : List LevelCall) (next : Next) → length (groupBy p n w cs next) ≡ 5
 unfolding groupBy
-four-long p n never cs next = refl
-four-long p n (with o) cs next = refl
+five-long p n never cs next = refl
+five-long p n (with o) cs next = refl
 
 -- voided once more
 blocks-again : (own next : Bool) (m : ℕ) → cond next 0 (cond own 0 m) ≡ cond (own || next) 0 m
@@ -53,23 +53,24 @@ ds-again true false d = refl
 ds-again false true d = refl
 ds-again false false d = refl
 
-void-again : (near far : Bool) (e : Erred) (a b : ℕ) (c d : Bool)
-    → voidFour e (cond near 0 a ∷ cond far 0 b ∷ flag (cond near false c) ∷ flag (cond far false d) ∷ [])
+void-again : (near far : Bool) (e : Erred) (a b : ℕ) (c d : Bool) (s : ℕ)
+    → voidFive e (cond near 0 a ∷ cond far 0 b ∷ flag (cond near false c) ∷ flag (cond far false d) ∷ cond far 0 s ∷ [])
     ≡ (cond (near || e .iae) 0 a
     ∷ cond (far || (e .iae || e .biae)) 0 b
     ∷ flag (cond (near || e .iae) false c)
     ∷ flag (cond (far || (e .iae || e .biae)) false d)
+    ∷ cond (far || (e .iae || e .biae)) 0 s
     ∷ [])
-unfolding voidFour
-void-again near far e a b c d =
-    rw (blocks-again near (e .iae) a, blocks-again far (e .iae || e .biae) b, ds-again near (e .iae) c, ds-again far (e .iae || e .biae) d)
+unfolding voidFive
+void-again near far e a b c d s =
+    rw (blocks-again near (e .iae) a, blocks-again far (e .iae || e .biae) b, ds-again near (e .iae) c, ds-again far (e .iae || e .biae) d, blocks-again far (e .iae || e .biae) s)
 
 zero-again : (x : Bool) → _≡_ {A = ℕ} (cond x 0 0) 0
 zero-again true = refl
 zero-again false = refl
 
-void-zeros : (e : Erred) → voidFour e (replicate 4 0) ≡ replicate 4 0
-unfolding voidFour
+void-zeros : (e : Erred) → voidFive e (replicate 5 0) ≡ replicate 5 0
+unfolding voidFive
 void-zeros e = rw (zero-again (e .iae), zero-again (e .iae || e .biae))
 
 -- after accepted calls
@@ -107,12 +108,12 @@ module _ (p : Settings) (v : SettingsIn p) (cs : List LevelCall) (a : AllTaken (
 
   -- as a mark closes them
   module _ (taken : markedOf t .refusal ≡ 0) where
-    level-four : (n : ℕ) → 1 ≤ n → n ≤ 6 → (w : Provisioned) → provisioned n cs ≡ w → fourOf (levelAt (t .levels) n) ≡ groupBy p n w cs not-yet
-    unfolding groupBy fourOf
-    level-four n low high never e = ap fourOf (level-other p cs a n low high e .blank)
-    level-four n low high (with o) e = sym (own-figures t n (level-one .six .0) low high taken) ∙ level-second p v cs a n low high o e .figures taken
+    level-five : (n : ℕ) → 1 ≤ n → n ≤ 6 → (w : Provisioned) → provisioned n cs ≡ w → fiveOf (levelAt (t .levels) n) ≡ groupBy p n w cs not-yet
+    unfolding groupBy fiveOf
+    level-five n low high never e = ap fiveOf (level-other p cs a n low high e .blank)
+    level-five n low high (with o) e = sym (own-figures t n (level-one .six .0) low high taken) ∙ level-second p v cs a n low high o e .figures taken
 
-    groups-are : (ls : List Level) (n : ℕ) → ((i : ℕ) → i < length ls → fourOf (getD ls i blankLevel) ≡ groupBy p (n + i) (provisioned (n + i) cs) cs not-yet)
+    groups-are : (ls : List Level) (n : ℕ) → ((i : ℕ) → i < length ls → fiveOf (getD ls i blankLevel) ≡ groupBy p (n + i) (provisioned (n + i) cs) cs not-yet)
         → levelFigures ls ≡ groupsFrom (length ls) n p cs not-yet
     unfolding levelFigures groupsFrom
     groups-are [] n h = refl
@@ -128,8 +129,8 @@ module _ (p : Settings) (v : SettingsIn p) (cs : List LevelCall) (a : AllTaken (
         (λ i k.
         let low : 1 ≤ 1 + i = omega arith in
         let high : 1 + i ≤ 6 = omega (arith, k, six) in
-        ap fourOf (sym (at-number (t .levels) (1 + i) low high ∙ ap (λ (m : ℕ). getD (t .levels) m blankLevel) (omega arith)))
-        ∙ level-four (1 + i) low high (provisioned (1 + i) cs) refl)
+        ap fiveOf (sym (at-number (t .levels) (1 + i) low high ∙ ap (λ (m : ℕ). getD (t .levels) m blankLevel) (omega arith)))
+        ∙ level-five (1 + i) low high (provisioned (1 + i) cs) refl)
         ∙ ap (λ (m : ℕ). groupsFrom m 1 p cs not-yet) six
 
     pub closed-figures : markedOf t .figures ≡ reportOf p cs not-yet
@@ -145,18 +146,19 @@ module _ (p : Settings) (v : SettingsIn p) (cs : List LevelCall) (a : AllTaken (
   -- as they void those of a second before it
   module _ (ds more : List LevelCall) (behind : cs ≡ ds ++ more) where
     void-level : (n : ℕ) → 1 ≤ n → n ≤ 6 → (w : Provisioned) → provisioned n ds ≡ w
-        → voidFour (levelErred (levelAt (t .levels) n)) (groupBy p n w ds not-yet) ≡ groupBy p n w ds (closes cs)
+        → voidFive (levelErred (levelAt (t .levels) n)) (groupBy p n w ds not-yet) ≡ groupBy p n w ds (closes cs)
     unfolding groupBy
     void-level n low high never e = void-zeros (levelErred (levelAt (t .levels) n))
     void-level n low high (with o) e =
         let given : provisioned n cs ≡ with o = ap (provisioned n) behind ∙ provisioned-stays n ds more o e in
-        ap (λ (x : Erred). voidFour x (levelFour p n o ds not-yet)) (level-erred n low high o given)
+        ap (λ (x : Erred). voidFive x (levelFour p n o ds not-yet ++ (levelSum p n o ds not-yet ∷ []))) (level-erred n low high o given)
         ∙ void-again (sheet.discarded p n o (historyOf ds)) (sheet.farDiscarded p n o (historyOf ds)) _ (page.yes (sheet.nears p n (historyOf ds)))
         (page.tally (sheet.far p n) (plainOf ds)) (page.some (sheet.nearDs p n o) (plainOf ds)) (page.some (sheet.farDs p n o) (plainOf ds))
+        (page.total (sheet.violations p n) (plainOf ds))
 
     void-groups : (ls : List Level) (n : ℕ)
         → ((i : ℕ) → i < length ls
-        → voidFour (levelErred (getD ls i blankLevel)) (groupBy p (n + i) (provisioned (n + i) ds) ds not-yet) ≡ groupBy p (n + i) (provisioned (n + i) ds) ds (closes cs))
+        → voidFive (levelErred (getD ls i blankLevel)) (groupBy p (n + i) (provisioned (n + i) ds) ds not-yet) ≡ groupBy p (n + i) (provisioned (n + i) ds) ds (closes cs))
         → voidLevels (map levelErred ls) (groupsFrom (length ls) n p ds not-yet) ≡ groupsFrom (length ls) n p ds (closes cs)
     unfolding voidLevels groupsFrom
     void-groups [] n h = refl
@@ -164,14 +166,14 @@ module _ (p : Settings) (v : SettingsIn p) (cs : List LevelCall) (a : AllTaken (
         let g : ℕ → Next → List ℕ = λ m x. groupBy p m (provisioned m ds) ds x in
         let rest : List ℕ = groupsFrom (length ls) (suc n) p ds not-yet in
         let z : n + 0 ≡ n = omega arith in
-        let long : length (g n not-yet) ≡ 4 = four-long p n (provisioned n ds) ds not-yet in
-        let first : voidFour (levelErred l) (g n not-yet) ≡ g n (closes cs) =
-        subst (λ (m : ℕ). voidFour (levelErred l) (g m not-yet) ≡ g m (closes cs)) z (h 0 (omega arith)) in
+        let long : length (g n not-yet) ≡ 5 = five-long p n (provisioned n ds) ds not-yet in
+        let first : voidFive (levelErred l) (g n not-yet) ≡ g n (closes cs) =
+        subst (λ (m : ℕ). voidFive (levelErred l) (g m not-yet) ≡ g m (closes cs)) z (h 0 (omega arith)) in
         let others : voidLevels (map levelErred ls) rest ≡ groupsFrom (length ls) (suc n) p ds (closes cs) =
         void-groups ls (suc n) (λ i k.
         let s : n + suc i ≡ suc n + i = omega arith in
-        subst (λ (m : ℕ). voidFour (levelErred (getD ls i blankLevel)) (g m not-yet) ≡ g m (closes cs)) s (h (suc i) (omega (arith, k)))) in
-        ap₂ (λ (x y : List ℕ). voidFour (levelErred l) x ++ voidLevels (map levelErred ls) y) (take-at (g n not-yet) rest 4 long) (drop-at (g n not-yet) rest 4 long)
+        subst (λ (m : ℕ). voidFive (levelErred (getD ls i blankLevel)) (g m not-yet) ≡ g m (closes cs)) s (h (suc i) (omega (arith, k)))) in
+        ap₂ (λ (x y : List ℕ). voidFive (levelErred l) x ++ voidLevels (map levelErred ls) y) (take-at (g n not-yet) rest 5 long) (drop-at (g n not-yet) rest 5 long)
         ∙ ap₂ (λ (x y : List ℕ). x ++ y) first others
 
     six-void : voidLevels (levelsErred t) (groupsFrom 6 1 p ds not-yet) ≡ groupsFrom 6 1 p ds (closes cs)
@@ -184,18 +186,18 @@ module _ (p : Settings) (v : SettingsIn p) (cs : List LevelCall) (a : AllTaken (
         let high : 1 + i ≤ 6 = omega (arith, k, six) in
         let at : levelAt (t .levels) (1 + i) ≡ getD (t .levels) i blankLevel =
         at-number (t .levels) (1 + i) low high ∙ ap (λ (m : ℕ). getD (t .levels) m blankLevel) (omega arith) in
-        subst (λ (l : Level). voidFour (levelErred l) (groupBy p (1 + i) (provisioned (1 + i) ds) ds not-yet) ≡ groupBy p (1 + i) (provisioned (1 + i) ds) ds (closes cs)) at
+        subst (λ (l : Level). voidFive (levelErred l) (groupBy p (1 + i) (provisioned (1 + i) ds) ds not-yet) ≡ groupBy p (1 + i) (provisioned (1 + i) ds) ds (closes cs)) at
         (void-level (1 + i) low high (provisioned (1 + i) ds) refl)))
 
-    section-void : voidFour (sectionErred t) (sectionFour p ds not-yet) ≡ sectionFour p ds (closes cs)
+    section-void : voidFive (sectionErred t) (sectionFive p ds not-yet) ≡ sectionFive p ds (closes cs)
     section-void =
-        ap (λ (x : Erred). voidFour x (sectionFour p ds not-yet)) section-erred
+        ap (λ (x : Erred). voidFive x (sectionFive p ds not-yet)) section-erred
         ∙ void-again (page.discarded p (plainOf ds)) (page.farDiscarded p (plainOf ds)) _ (page.tally (page.sectionNear p) (plainOf ds))
         (page.tally (page.sectionFar p) (plainOf ds)) (page.some (page.sectionNearDs p) (plainOf ds))
-        (page.some (λ f l. page.sectionBdi p (f ∷ l)) (plainOf ds))
+        (page.some (λ f l. page.sectionBdi p (f ∷ l)) (plainOf ds)) (page.total (page.sectionViolations p) (plainOf ds))
 
     pub voided-figures : voided (sectionErred t) (levelsErred t) (drop 1 (reportOf p ds not-yet)) ≡ drop 1 (reportOf p ds (closes cs))
     unfolding voided reportOf
     voided-figures =
         let f : List ℕ = page.figures p (plainOf ds) in
-        ap₂ (λ (x y : List ℕ). take 11 (drop 1 f) ++ (x ++ (drop 16 f ++ y))) section-void six-void
+        ap₂ (λ (x y : List ℕ). take 11 (drop 1 f) ++ (x ++ (drop 17 f ++ y))) section-void six-void

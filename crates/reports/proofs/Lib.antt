@@ -1,4 +1,5 @@
 pub mod Lists
 pub mod Figures
 pub mod Demand
+pub mod Sums
 pub mod Reports

@@ -24,6 +24,7 @@ use Rattle.reports.specs.Reports.{reportOf, secondAt, upTo, EveryReporte
 use Rattle.reports.proofs.Lists.{taken-parts, taken-join, late-append, tells-append, marks-append, marks-plain, MarkAt, mark-at, before-append, before-next}
 use Rattle.reports.proofs.Figures.{seconds-is, closed-figures, voided-figures}
 use Rattle.reports.proofs.Demand.{line-demand}
+use Rattle.reports.proofs.Sums.{sum-bounds}
 
 -- a mark that is accepted
 mark-taken : (s : Late) → markedOf (s .tandem) .refusal ≡ 0 → lateMarked s ≡ record {
@@ -217,4 +218,5 @@ reported p v cs a = record {
   all =
       ap₂ (λ (x y : List (List ℕ)). x ++ y) (all-from p v cs a [] cs refl refl) (last-is p v cs a) ∙ up-more p v cs (marksIn cs);
   demand = λ i low high. line-demand p v (beforeMark i cs) (parts p v i cs a low high .0) _;
+  bounds = λ i low high. sum-bounds p (beforeMark i cs) _;
 }

@@ -3,10 +3,11 @@
 use mathlib.Core.Path.{_≡_}
 use mathlib.Core.Bool.{Bool, false, cond, _||_}
 use mathlib.Core.List.{List, [], _∷_, _++_, map, reverse}
-use Prim.Native.Nat.{ℕ, zero, suc, _+_, _≤_}
+use Prim.Native.Nat.{ℕ, zero, suc, _+_, _*_, _≤_}
 use lib.Dec.{eqb, ltb}
 use lib.ListN.{getD, take, drop, replicate}
 use Rattle.answer.specs.Bits.{flag}
+use Rattle.answer.specs.Bounded.{Bounded}
 use Rattle.settings.specs.declared.Settings.{Settings}
 use Rattle.settings.specs.declared.Options.{Options}
 use Rattle.settings.specs.Ranges.{SettingsIn}
@@ -91,6 +92,16 @@ sectionFour p cs next =
     ∷ flag (cond far false (page.some (λ f l. page.sectionBdi p (f ∷ l)) (plainOf cs)))
     ∷ []
 
+-- The sum of far-end violations of the section: the total over the frames whose far-end block is counted; "it is discarded .. as the far block count is" (document 02, K7).
+abbrev pub sectionSum : Settings → List LevelCall → Next → ℕ
+sectionSum p cs next =
+    let far : Bool = either (λ k. page.farDiscarded p (plainOf k)) cs next in
+    cond far 0 (page.total (page.sectionViolations p) (plainOf cs))
+
+-- "The sum comes last in each layer's group"
+abbrev pub sectionFive : Settings → List LevelCall → Next → List ℕ
+sectionFive p cs next = sectionFour p cs next ++ (sectionSum p cs next ∷ [])
+
 -- those of level n, provisioned with the options o
 abbrev pub levelFour : Settings → ℕ → Options → List LevelCall → Next → List ℕ
 levelFour p n o cs next =
@@ -102,19 +113,55 @@ levelFour p n o cs next =
     ∷ flag (cond far false (page.some (sheet.farDs p n o) (plainOf cs)))
     ∷ []
 
+abbrev pub levelSum : Settings → ℕ → Options → List LevelCall → Next → ℕ
+levelSum p n o cs next =
+    let far : Bool = either (λ k. sheet.farDiscarded p n o (historyOf k)) cs next in
+    cond far 0 (page.total (sheet.violations p n) (plainOf cs))
+
 -- zeros where it is not provisioned; and the groups of k levels from n on
 unfoldable pub groupBy : Settings → ℕ → Provisioned → List LevelCall → Next → List ℕ
-groupBy p n never cs next = replicate 4 0
-groupBy p n (with o) cs next = levelFour p n o cs next
+groupBy p n never cs next = replicate 5 0
+groupBy p n (with o) cs next = levelFour p n o cs next ++ (levelSum p n o cs next ∷ [])
 
 unfoldable pub groupsFrom : ℕ → ℕ → Settings → List LevelCall → Next → List ℕ
 groupsFrom zero n p cs next = []
 groupsFrom (suc k) n p cs next = groupBy p n (provisioned n cs) cs next ++ groupsFrom k (suc n) p cs next
 
--- The forty-four figures of the second that a mark behind the calls closes: number, frames, heads and path as on the page, for "The ledger's heads are untouched".
+-- The fifty-two figures of the second that a mark behind the calls closes: number, frames, heads and path as on the page, for "The ledger's heads are untouched".
 unfoldable pub reportOf : Settings → List LevelCall → Next → List ℕ
 reportOf p cs next =
-    (take 12 (page.figures p (plainOf cs)) ++ (sectionFour p cs next ++ drop 16 (page.figures p (plainOf cs)))) ++ groupsFrom 6 1 p cs next
+    (take 12 (page.figures p (plainOf cs)) ++ (sectionFive p cs next ++ drop 17 (page.figures p (plainOf cs)))) ++ groupsFrom 6 1 p cs next
+
+-- What was reported of it before there were sums, in the same words, and its figures without them: the first twelve, then four of each five.
+abbrev pub pathFour : Settings → List LevelCall → List ℕ
+pathFour p cs =
+    page.pathNearBlocks p (plainOf cs)
+    ∷ page.tally (page.pathFar p) (plainOf cs)
+    ∷ flag (page.some (page.pathNearDs p) (plainOf cs))
+    ∷ flag (page.some (λ f l. page.pathBdi p (f ∷ l)) (plainOf cs))
+    ∷ []
+
+unfoldable pub groupBefore : Settings → ℕ → Provisioned → List LevelCall → Next → List ℕ
+groupBefore p n never cs next = replicate 4 0
+groupBefore p n (with o) cs next = levelFour p n o cs next
+
+unfoldable pub groupsBefore : ℕ → ℕ → Settings → List LevelCall → Next → List ℕ
+groupsBefore zero n p cs next = []
+groupsBefore (suc k) n p cs next = groupBefore p n (provisioned n cs) cs next ++ groupsBefore k (suc n) p cs next
+
+abbrev pub reportBefore : Settings → List LevelCall → Next → List ℕ
+reportBefore p cs next = take 12 (page.figures p (plainOf cs)) ++ (sectionFour p cs next ++ (pathFour p cs ++ groupsBefore 6 1 p cs next))
+
+unfoldable pub foursIn : ℕ → List ℕ → List ℕ
+foursIn zero v = []
+foursIn (suc k) v = take 4 v ++ foursIn k (drop 5 v)
+
+abbrev pub withoutSums : List ℕ → List ℕ
+withoutSums v = take 12 v ++ foursIn 8 (drop 12 v)
+
+-- far blocks and all else that is reported are as they were before K7
+abbrev pub SameBefore : Type 0
+SameBefore = (p : Settings) (cs : List LevelCall) (next : Next) → withoutSums (reportOf p cs next) ≡ reportBefore p cs next
 
 -- second i of calls with m marks: the one behind it is closed where i < m
 abbrev pub secondAt : Settings → List LevelCall → ℕ → List ℕ
@@ -129,8 +176,14 @@ upTo (suc m) = upTo m ++ (suc m ∷ [])
 -- under heads 0 and 9.
 pub record LineDemand3 (v : List ℕ) : Type 0 where
   pub sum : sumOf (take 10 (drop 2 v)) ≡ getD v 1 0
-  pub near-most : getD v 16 0 ≤ getD v 2 0 + getD v 11 0
-  pub far-most : getD v 17 0 ≤ getD v 2 0 + getD v 11 0
+  pub near-most : getD v 17 0 ≤ getD v 2 0 + getD v 11 0
+  pub far-most : getD v 18 0 ≤ getD v 2 0 + getD v 11 0
+
+-- "In each reported second the sum is at least the far blocks and at most eight times them." (document 02, K7): in section, path and each level
+pub record SumBounds (v : List ℕ) : Type 0 where
+  pub section : Bounded (getD v 13 0) (getD v 16 0)
+  pub path : Bounded (getD v 18 0) (getD v 21 0)
+  pub level : (n : ℕ) → 1 ≤ n → n ≤ 6 → Bounded (getD v (18 + 5 * n) 0) (getD v (21 + 5 * n) 0)
 
 -- Reported: second i of m marks is told exactly once and in order, at mark i + 1, or at the end where i = m.
 pub record Reported (p : Settings) (cs : List LevelCall) : Type 0 where
@@ -144,6 +197,7 @@ pub record Reported (p : Settings) (cs : List LevelCall) : Type 0 where
   -- all that is told, in its order
   pub all : callsTell (freshLate (freshTandem (freshOf p))) cs ++ endTells (lateAt p cs) ≡ map (secondAt p cs) (upTo (marksIn cs))
   pub demand : (i : ℕ) → 1 ≤ i → i ≤ marksIn cs → LineDemand3 (secondAt p cs i)
+  pub bounds : (i : ℕ) → 1 ≤ i → i ≤ marksIn cs → SumBounds (secondAt p cs i)
 
 -- of every list of accepted calls
 abbrev pub EveryReported : Type 0

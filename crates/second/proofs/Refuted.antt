@@ -9,11 +9,16 @@ use contract.Lifetimes.{Lfts}
 use borrow.Fn.Kinds.{Dens, endedOf}
 use denote.Triple.Clauses.{AtExit}
 use Rattle.overhead.specs.Overhead.{farBlock}
+use Rattle.overhead.specs.Bei.{pathBei, beiOf}
 use Rattle.causes.specs.Causes.{ssfOf}
-use Rattle.filter.specs.Filter.{upOf}
-use Rattle.second.specs.Second.{nearOf, farOf, blocksOf, countOf, discardOf, closedOf}
+use Rattle.answer.specs.Answer.{NoAnswer}
+use Rattle.filter.specs.Filter.{upOf, addOf}
+use Rattle.overhead.specs.declared.Bei.the-variants.{Number, Biae}
+use Rattle.second.specs.Second.{nearOf, farOf, sumOf, countedOf, blocksOf, countOf, discardOf, closedOf}
 use Rattle.second.specs.declared.Blocks.{Blocks}
 use Rattle.second.specs.declared.Second.{Second}
+use Rattle.second.proofs.counted.Kinds as counted-kinds
+use Rattle.second.proofs.counted.Reads as counted-reads
 use Rattle.second.proofs.blocks_step.Kinds as blocks-step-kinds
 use Rattle.second.proofs.blocks_step.Reads as blocks-step-reads
 use Rattle.second.proofs.count.Kinds as count-kinds
@@ -26,6 +31,17 @@ use Rattle.second.proofs.figures.Kinds as figures-kinds
 use Rattle.second.proofs.figures.Reads as figures-reads
 use Rattle.second.proofs.fresh_second.Kinds as fresh-second-kinds
 use Rattle.second.proofs.fresh_second.Reads as fresh-second-reads
+
+-- violations are not counted where counting is stopped
+pub stopped-added : NoAnswer counted-kinds.ps counted-kinds.r counted-reads.Post (Number 8, (true, tt)) 8
+unfolding countedOf
+stopped-added s e = let h : _≡_ {A = ℕ} 8 0 = e in omega arith
+
+-- the sum grows by the number, and not by one
+pub one-for-eight : (κs : Lfts 0) (a : Dens κs blocks-step-kinds.ps) (x : Blocks) (s : AtExit (endedOf 0 blocks-step-kinds.ps blocks-step-kinds.r) κs)
+    → a .0 .sum .0 ≡ 0 → a .1 .0 .far ≡ Number 8 → a .1 .0 .stopped ≡ false → x .sum .0 ≡ 1 → blocks-step-reads.Post κs a x s → ⊥
+unfolding blocksOf sumOf countedOf addOf
+one-for-eight κs a x s zero shown goes sum e = let h : _≡_ {A = ℕ} 8 1 = simp (e, shown, goes, zero) at sum in omega arith
 
 -- a block is not counted where counting is stopped
 pub stopped-counted : (κs : Lfts 0) (a : Dens κs blocks-step-kinds.ps) (x : Blocks) (s : AtExit (endedOf 0 blocks-step-kinds.ps blocks-step-kinds.r) κs)
@@ -55,8 +71,14 @@ oof-stops κs a x s zero ssf oof one near e = let h : _≡_ {A = ℕ} 1 0 = simp
 -- BEI 9 is no far-end block
 pub nine-counted : (κs : Lfts 0) (a : Dens κs count-kinds.ps) (x : Second) (s : AtExit (endedOf 0 count-kinds.ps count-kinds.r) κs)
     → a .0 .section .far .0 ≡ 0 → a .1 .1 .0 .section .bei ≡ 9 → x .section .far .0 ≡ 1 → count-reads.Post κs a x s → ⊥
-unfolding countOf blocksOf farOf farBlock
+unfolding countOf blocksOf farOf farBlock pathBei beiOf
 nine-counted κs a x s zero nine far e = let h : _≡_ {A = ℕ} 0 1 = simp (e, nine, zero) at far in omega arith
+
+-- 1011 is not eleven violations
+pub eleven-added : (κs : Lfts 0) (a : Dens κs count-kinds.ps) (x : Second) (s : AtExit (endedOf 0 count-kinds.ps count-kinds.r) κs)
+    → a .0 .section .sum .0 ≡ 0 → ssfOf (a .1 .0 .line) ≡ false → a .1 .1 .0 .section .bei ≡ 11 → x .section .sum .0 ≡ 11 → count-reads.Post κs a x s → ⊥
+unfolding countOf blocksOf sumOf countedOf addOf farBlock pathBei beiOf
+eleven-added κs a x s zero ssf eleven sum e = let h : _≡_ {A = ℕ} 0 11 = simp (e, ssf, eleven, zero) at sum in omega arith
 
 -- dIAE discards the near values too
 pub iae-keeps-near : (κs : Lfts 0) (a : Dens κs discard-kinds.ps) (x : Blocks) (s : AtExit (endedOf 0 discard-kinds.ps discard-kinds.r) κs)
@@ -75,6 +97,12 @@ pub biae-keeps-far : (κs : Lfts 0) (a : Dens κs closed-kinds.ps) (x : Second) 
     → a .0 .iae ≡ false → a .0 .biae ≡ true → a .0 .section .far .0 ≡ 1 → x .section .far .0 ≡ 1 → closed-reads.Post κs a x s → ⊥
 unfolding closedOf discardOf
 biae-keeps-far κs a x s iae biae one far e = let h : _≡_ {A = ℕ} 0 1 = simp (e, iae, biae) at far in omega arith
+
+-- and its sum
+pub biae-keeps-sum : (κs : Lfts 0) (a : Dens κs closed-kinds.ps) (x : Second) (s : AtExit (endedOf 0 closed-kinds.ps closed-kinds.r) κs)
+    → a .0 .iae ≡ false → a .0 .biae ≡ true → a .0 .section .sum .0 ≡ 1 → x .section .sum .0 ≡ 1 → closed-reads.Post κs a x s → ⊥
+unfolding closedOf discardOf
+biae-keeps-sum κs a x s iae biae one sum e = let h : _≡_ {A = ℕ} 0 1 = simp (e, iae, biae) at sum in omega arith
 
 -- near before far
 pub far-before-near : (κs : Lfts 0) (a : Dens κs figures-kinds.ps) (x : List ℕ) (s : AtExit (endedOf 0 figures-kinds.ps figures-kinds.r) κs)

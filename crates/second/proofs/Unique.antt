@@ -1,6 +1,8 @@
 -- No second answer meets the contracts of this crate. Assumes nothing.
 use mathlib.Core.Path.{sym, _∙_}
 use Rattle.answer.specs.Answer.{OneAnswer}
+use Rattle.second.proofs.counted.Kinds as counted-kinds
+use Rattle.second.proofs.counted.Reads as counted-reads
 use Rattle.second.proofs.blocks_step.Kinds as blocks-step-kinds
 use Rattle.second.proofs.blocks_step.Reads as blocks-step-reads
 use Rattle.second.proofs.count.Kinds as count-kinds
@@ -13,6 +15,9 @@ use Rattle.second.proofs.figures.Kinds as figures-kinds
 use Rattle.second.proofs.figures.Reads as figures-reads
 use Rattle.second.proofs.fresh_second.Kinds as fresh-second-kinds
 use Rattle.second.proofs.fresh_second.Reads as fresh-second-reads
+
+pub counted-one : OneAnswer 0 counted-kinds.ps counted-kinds.r counted-reads.Post
+counted-one κs a x y s t p q = p ∙ sym q
 
 pub blocks-step-one : OneAnswer 0 blocks-step-kinds.ps blocks-step-kinds.r blocks-step-reads.Post
 blocks-step-one κs a x y s t p q = p ∙ sym q

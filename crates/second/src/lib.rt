@@ -1,24 +1,28 @@
 // The open second: blocks, DS, frames and the ten heads.
 use causes::Standing;
 use filter::up;
+use overhead::Bei;
 use overhead::Overhead;
 ghost use mathlib.Core.Path.{_≡_};
-ghost use Rattle.second.specs.Second.{nearOf, farOf, oneFrame, blocksOf, oneUnder, countOf, discardOf, closedOf, figuresOf, freshSecond};
+ghost use Rattle.second.specs.Second.{nearOf, farOf, sumOf, countedOf, oneFrame, blocksOf, oneUnder, countOf, discardOf, closedOf, figuresOf, freshSecond};
 ghost use Rattle.answer.specs.Bits.{flag};
 
-// Near-end errored blocks, far-end errored blocks and frames: three counters that can't be added to one another.
+// Near-end errored blocks, far-end errored blocks, far-end violations and frames: four counters that can't be added to one another.
 pub struct Near(pub u32);
 
 pub struct Far(pub u32);
 
+pub struct Sum(pub u32);
+
 pub struct Frames(pub u32);
 
-// A layer's four values of a second: near-end and far-end blocks, near and far DS.
+// A layer's five values of a second: near-end and far-end blocks, near and far DS, the sum of far-end violations.
 pub struct Blocks {
     pub near: Near,
     pub far: Far,
     pub neards: bool,
     pub fards: bool,
+    pub sum: Sum,
 }
 
 // `heads`: frames under each head; `iae`, `biae`: whether section dIAE and dBIAE stood in some frame.
@@ -31,11 +35,11 @@ pub struct Second {
     pub biae: bool,
 }
 
-// What a frame adds to a layer's values.
+// What a frame adds to a layer's values; `far` is its BEI reading.
 pub struct Shows {
     pub stopped: bool,
     pub near: bool,
-    pub far: bool,
+    pub far: Bei,
     pub neards: bool,
     pub fards: bool,
 }
@@ -60,6 +64,24 @@ fn far_step(n: Far, more: bool) -> Far
     n
 }
 
+// The violations that a BEI reading adds: none where counting is stopped.
+pub fn counted(b: Bei, stopped: bool) -> u32
+    ensures { λ r. ⌜ r ≡ countedOf b stopped ⌝ }
+{
+    if stopped {
+        return 0;
+    }
+    let n = overhead::violations(b);
+    n as u32
+}
+
+fn sum_step(n: Sum, more: u32) -> Sum
+    ensures { λ r. ⌜ r ≡ sumOf n more ⌝ }
+{
+    let x = filter::add(n.0, more, 3200000);
+    Sum(x)
+}
+
 fn frames_step(n: Frames) -> Frames
     ensures { λ r. ⌜ r ≡ oneFrame n ⌝ }
 {
@@ -72,13 +94,19 @@ pub fn blocks_step(b: Blocks, s: Shows) -> Blocks
 {
     let n = b.near;
     let f = b.far;
+    let total = b.sum;
+    let read = s.far;
+    let shown = overhead::is_far(read);
+    let more = counted(read, s.stopped);
     let near = near_step(n, s.near & !s.stopped);
-    let far = far_step(f, s.far & !s.stopped);
+    let far = far_step(f, shown & !s.stopped);
+    let sum = sum_step(total, more);
     Blocks {
         near: near,
         far: far,
         neards: b.neards | s.neards,
         fards: b.fards | s.fards,
+        sum: sum,
     }
 }
 
@@ -110,8 +138,8 @@ pub fn count(c: Second, d: Standing, o: Overhead, sm: u8, pm: u8) -> Second
     let ssf = causes::ssf_of(l);
     let acts = causes::tim_acts(s.tim, s.disabled);
     let down = causes::path_down(ssf | acts, p);
-    let sfar = overhead::far_block(o.section.bei);
-    let pfar = overhead::far_block(o.path.bei);
+    let sfar = overhead::bei_of(o.section.bei);
+    let pfar = overhead::path_bei(o.path.bei);
     let frames = frames_step(f);
     let head = causes::head_of(d);
     let heads = heads_step(h, head);
@@ -155,6 +183,7 @@ pub fn discard(b: Blocks, iae: bool, biae: bool) -> Blocks
             far: Far(0),
             neards: false,
             fards: false,
+            sum: Sum(0),
         };
     }
     if biae {
@@ -164,6 +193,7 @@ pub fn discard(b: Blocks, iae: bool, biae: bool) -> Blocks
             far: Far(0),
             neards: b.neards,
             fards: false,
+            sum: Sum(0),
         };
     }
     b
@@ -187,8 +217,8 @@ fn flag_of(b: bool) -> u32
     b as u32
 }
 
-// The twenty figures of a second.
-pub fn figures(number: u32, c: Second) -> [u32; 20]
+// The twenty-two figures of a second.
+pub fn figures(number: u32, c: Second) -> [u32; 22]
     ensures { λ r. ⌜ r ≡ figuresOf number c ⌝ }
 {
     let h = c.heads;
@@ -211,10 +241,12 @@ pub fn figures(number: u32, c: Second) -> [u32; 20]
         s.far.0,
         flag_of(s.neards),
         flag_of(s.fards),
+        s.sum.0,
         p.near.0,
         p.far.0,
         flag_of(p.neards),
         flag_of(p.fards),
+        p.sum.0,
     ]
 }
 
@@ -227,6 +259,7 @@ pub fn fresh_second() -> Second
         far: Far(0),
         neards: false,
         fards: false,
+        sum: Sum(0),
     };
     Second {
         frames: Frames(0),

@@ -6,6 +6,7 @@ use mathlib.Core.List.{List, [], _∷_}
 use lib.Dec.{eqb}
 use borrow.Author.Tests.{eqb-true}
 use Rattle.answer.proofs.Cond.{by-cond}
+use Rattle.overhead.proofs.Codes.{same-far}
 use Rattle.filter.specs.declared.Filter.{Filter}
 use Rattle.filter.specs.declared.Stat.{Stat}
 use Rattle.filter.specs.Filter.{filterOf}
@@ -161,7 +162,7 @@ module _ (p : Settings) (v : SettingsIn p) (n : ℕ) (o : Options) (ready : Read
       ap (λ (z : Filter). z .on)
       (carried (filterAfter 3) (λ k. own p n o k .state .biae) (biaeBit p n o)
       (λ k f counts gs e.
-      ap₃ (λ (z : Filter) (x y : Bool). filterOf z 3 (x || y) (eqb (field p n f .bei) 11)) e (faults-is k f counts) (tim-stands (counted f counts ∷ k)))
+      ap₃ (λ (z : Filter) (x y : Bool). filterOf z 3 x y) e (ap₂ (λ (x y : Bool). x || y) (faults-is k f counts) (tim-stands (counted f counts ∷ k))) (same-far (field p n f .bei) .mark))
       (λ k. refl) refl h)
       ∙ filter-on 2 (each (biaeBit p n o) (framesIn h)) .value
 

@@ -17,7 +17,7 @@ use Rattle.level.proofs.Clause.{clause}
 use Rattle.supervisor.specs.Supervisor.{freshOf, frameOf, standsAfter, nextSecond}
 use Rattle.supervisor.specs.declared.Supervisor.{Supervisor}
 use Rattle.history.specs.History.{eventOf}
-use Rattle.tandem.specs.Levels.{fourOf}
+use Rattle.tandem.specs.Levels.{fiveOf}
 use Rattle.tandem.specs.Tandem.{freshTandem, ssfNow, levelShown, levelReport, levelTraced}
 use Rattle.tandem.specs.declared.Level.{Level}
 use Rattle.tandem.specs.declared.Tandem.{Tandem}
@@ -30,11 +30,11 @@ use Rattle.page.proofs.Sections.{path-ssf-is}
 use Rattle.page.proofs.Degraded.{deg-on}
 use Rattle.page.proofs.Page.{filter-stands}
 use Rattle.sheet.specs.Sheet.{LevelEvent, counted, closed, plainly, framesIn, ssfAt, bdiBit, biaeBit, bads, stands, actions, causes, traced}
-use Rattle.sheet.specs.Sheet.{eventsOf, provisioned, with, never, reached, EachLevel, LevelPage, LevelFaults, LevelFour, EachOther}
+use Rattle.sheet.specs.Sheet.{eventsOf, provisioned, with, never, reached, EachLevel, LevelPage, LevelFaults, LevelFive, EachOther}
 use Rattle.sheet.specs.Sheet.{EachOn}
 use Rattle.sheet.proofs.Own.{lastFlags, own, own-given, own-options, Is, is-fresh, is-after}
 use Rattle.sheet.proofs.Defects.{raises, trace-stands, stands-are}
-use Rattle.sheet.proofs.Seconds.{four-is, deg-is}
+use Rattle.sheet.proofs.Seconds.{five-is, deg-is}
 
 -- path SSF as it stands
 ssf-now : (p : Settings) → SettingsIn p → (o : Options) (h : List LevelEvent) → ssfNow (sup p (plainly h)) (lastFlags h) ≡ ssfAt p (framesIn h)
@@ -116,9 +116,9 @@ module _ (p : Settings) (v : SettingsIn p) (n : ℕ) (low : 1 ≤ n) (high : n �
   unfolding levelReport
   faults-are = record { acted = ap levelActions stood-is ∙ actions-are p n o h; caused = ap levelCauses stood-is ∙ causes-are p n o h }
 
-  figures-are : LevelFour p n o t h
+  figures-are : LevelFive p n o t h
   figures-are = record {
-    figures = λ e. own-figures t n (i .six .0) low high e ∙ ap fourOf (i .level) ∙ four-is p v n o (i .ready) h (i .accepted);
+    figures = λ e. own-figures t n (i .six .0) low high e ∙ ap fiveOf (i .level) ∙ five-is p v n o (i .ready) h (i .accepted);
   }
 
 -- each level
@@ -135,8 +135,8 @@ level-page = each-level LevelPage page-is
 pub level-causes : EachLevel LevelFaults
 level-causes = each-level LevelFaults faults-are
 
-pub level-second : EachLevel LevelFour
-level-second = each-level LevelFour figures-are
+pub level-second : EachLevel LevelFive
+level-second = each-level LevelFive figures-are
 
 -- and a level that is not
 pub level-other : EachOther

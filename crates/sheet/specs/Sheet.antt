@@ -32,7 +32,7 @@ use Rattle.tandem.specs.Levels.{countAt, lowTo}
 use Rattle.tandem.specs.Tandem.{freshTandem, markedOf, levelReport, levelTraced}
 use Rattle.tandem.specs.declared.Tandem.{Tandem}
 use Rattle.watch.specs.Watch.{LevelCall, gives, records, frames, marks as closes, refusalAt, tandemBy, tandemAfter, refusalOf, AllTaken, groupAt, Nothing}
-use Rattle.page.specs.Page.{each, framesBack, inMulti, localNumber, pathSsf, tally, some, yes, held, Taken}
+use Rattle.page.specs.Page.{each, framesBack, inMulti, localNumber, pathSsf, tally, some, total, yes, held, Taken}
 
 -- "Frames with six more counts at the end, levels 1 to 6": a frame with them, or a mark
 pub data LevelEvent : Type 0 where
@@ -123,6 +123,10 @@ module _ (p : Settings) (n : ℕ) where
   abbrev pub far : Frame → List Frame → Bool
   far f l = farBlock (field f .bei) && not (down f l)
 
+  -- "the sum of BEI violations beside errored blocks .. and every tandem level" (document 02, K7): the number of a frame whose far-end block is counted
+  abbrev pub violations : Frame → List Frame → ℕ
+  violations f l = cond (far f l) (field f .bei) 0
+
 -- The level provisioned with the options o: all that is said of it.
 module _ (p : Settings) (n : ℕ) (o : Options) where
   -- "dTIM: a trace is accepted and the compared field differs."; "'TIM acts' means dTIM and not TIMActDis." (document 01; 6.2.2.1)
@@ -160,13 +164,14 @@ module _ (p : Settings) (n : ℕ) (o : Options) where
   abbrev pub nearBlocks : List LevelEvent → ℕ
   nearBlocks h = cond (discarded h) 0 (yes (nears p n h))
 
-  -- "the four figures of every provisioned level"
-  abbrev pub four : List LevelEvent → List ℕ
-  four h =
+  -- "the four figures of every provisioned level" (document 02, K1), and "The sum comes last in each layer's group" (K7)
+  abbrev pub five : List LevelEvent → List ℕ
+  five h =
       nearBlocks h
       ∷ cond (farDiscarded h) 0 (tally (far p n) (plainly h))
       ∷ flag (cond (discarded h) false (some nearDs (plainly h)))
       ∷ flag (cond (farDiscarded h) false (some farDs (plainly h)))
+      ∷ cond (farDiscarded h) 0 (total (violations p n) (plainly h))
       ∷ []
 
   -- dDEG (6.2.3.4), "decided at a mark: a second is bad if its near-end block count, after discard, is at least DEGThr. DEGM bad seconds in a row raise it,
@@ -292,9 +297,9 @@ pub record LevelFaults (p : Settings) (n : ℕ) (o : Options) (t : Tandem) (h : 
   pub acted : levelReport t n .actions ≡ actions p n o h
   pub caused : levelReport t n .causes ≡ causes p n o h
 
--- its four figures at the next mark
-pub record LevelFour (p : Settings) (n : ℕ) (o : Options) (t : Tandem) (h : List LevelEvent) : Type 0 where
-  pub figures : markedOf t .refusal ≡ 0 → groupAt (markedOf t .figures) n ≡ four p n o h
+-- its five figures at the next mark
+pub record LevelFive (p : Settings) (n : ℕ) (o : Options) (t : Tandem) (h : List LevelEvent) : Type 0 where
+  pub figures : markedOf t .refusal ≡ 0 → groupAt (markedOf t .figures) n ≡ five p n o h
 
 -- of a level that they do not provision nothing is told
 abbrev pub EachOther : Type 0

@@ -8,7 +8,7 @@ use Rattle.settings.specs.declared.Options.{Options}
 use Rattle.settings.specs.declared.Settings.{Settings}
 use Rattle.history.specs.History.{Frame}
 use Rattle.page.specs.Page.{each}
-use Rattle.sheet.specs.Sheet.{LevelEvent, counted, dLTC, four}
+use Rattle.sheet.specs.Sheet.{LevelEvent, counted, dLTC, five}
 
 -- k = 1, trace mode 0
 abbrev pub mode0 : Options
@@ -26,8 +26,8 @@ ones = counted (zeros 0) (replicate 6 1)
 
 pub record SheetWorked : Type 0 where
   -- five such frames: dLTC stands from the third on, so that two blocks are counted, and near DS
-  pub second : map (λ (n : ℕ). four first n mode0 (replicate 5 ones)) (1 ∷ 2 ∷ 3 ∷ 4 ∷ 5 ∷ 6 ∷ [])
-      ≡ replicate 6 (2 ∷ 0 ∷ 1 ∷ 0 ∷ [])
+  pub second : map (λ (n : ℕ). five first n mode0 (replicate 5 ones)) (1 ∷ 2 ∷ 3 ∷ 4 ∷ 5 ∷ 6 ∷ [])
+      ≡ replicate 6 (2 ∷ 0 ∷ 1 ∷ 0 ∷ 0 ∷ [])
   -- of twelve, the latest first, the sixth and the seventh have TSF-P: dLTC in frames 3 to 5, and again from the tenth on
   pub ltc : map (λ (n : ℕ). each (λ f l. dLTC first n (f ∷ l)) (replicate 5 (zeros 0) ++ (replicate 2 (zeros 1) ++ replicate 5 (zeros 0)))) (1 ∷ 2 ∷ 3 ∷ 4 ∷ 5 ∷ 6 ∷ [])
       ≡ replicate 6 (replicate 3 true ++ (replicate 4 false ++ (replicate 3 true ++ replicate 2 false)))

@@ -1,8 +1,8 @@
 -- "Path STAT" (document 01): what an accepted code raises (6.2.6.3.2, 6.2.6.8.2, 6.2.6.9.1). Assumes nothing.
 use Prim.Native.Nat.{ℕ}
-use mathlib.Core.Bool.{Bool, true, false, cond, _||_}
+use mathlib.Core.Bool.{Bool, true, false, cond}
 use mathlib.Core.List.{List, [], _∷_}
-use lib.Dec.{eqb}
+use Rattle.answer.specs.Among.{among}
 use Rattle.filter.specs.declared.Stat.{Stat}
 use Rattle.signal.specs.declared.Signal.{Signal}
 use Rattle.signal.specs.declared.Raised.{Raised}
@@ -14,10 +14,6 @@ codesOf Ais = 7 ∷ []
 codesOf Oci = 6 ∷ []
 codesOf Lck = 5 ∷ []
 codesOf Clear = 0 ∷ 1 ∷ 2 ∷ 3 ∷ 4 ∷ []
-
-abbrev pub among : ℕ → List ℕ → Bool
-among v [] = false
-among v (x ∷ xs) = eqb v x || among v xs
 
 -- the case that has the code
 unfoldable pub signalOf : ℕ → Signal

@@ -16,6 +16,6 @@ use Rattle.slot.proofs.is_slot.Reads as is-slot-reads
 
 -- more bytes than a slot has are none
 pub any-length : (κs : Lfts 1) (a : Dens κs is-slot-kinds.ps) (s : AtExit (endedOf 1 is-slot-kinds.ps is-slot-kinds.r) κs)
-    → now (a .0) ≡ replicate 176 0 → is-slot-reads.Post κs a true s → ⊥
+    → now (a .0) ≡ replicate 208 0 → is-slot-reads.Post κs a true s → ⊥
 unfolding slotSound
 any-length κs a s b e = not-so (e ∙ ap slotSound b)

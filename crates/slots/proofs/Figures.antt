@@ -35,13 +35,13 @@ flat-bytes (w ∷ ws) =
     rw (n, byte-leb w, byte-leb (w / 256), byte-leb (w / 65536), byte-leb (w / 16777216), flat-bytes ws)
 
 module _ (v : List ℕ) (e : figuresRanged v ≡ true) where
-  pub many : length v ≡ 43
+  pub many : length v ≡ 51
   many = below-long slotGreatest v e
 
-  pub slot-long : length (flat v) ≡ 172
+  pub slot-long : length (flat v) ≡ 204
   slot-long = length-flat v ∙ ap (λ (n : ℕ). n * 4) many
 
-  pub words-are : wordsOf 43 (flat v) ≡ v
+  pub words-are : wordsOf 51 (flat v) ≡ v
   words-are =
       rw (append-nil, many) at (words-back (replicate (length v) 0) slotGreatest v [] refl (below-inside slotGreatest v e))
 
@@ -49,22 +49,22 @@ module _ (v : List ℕ) (e : figuresRanged v ≡ true) where
   unfolding slotSound
   slot-tested =
       let b = rw many at (flat-bytes v) in
-      rw (eq-eqb (length (flat v)) 172 slot-long, b, words-are, e)
+      rw (eq-eqb (length (flat v)) 204 slot-long, b, words-are, e)
 
 module _ (b : List ℕ) (e : slotSound b ≡ true) where
-  pub slot-bytes : length b ≡ 172
+  pub slot-bytes : length b ≡ 204
   unfolding slotSound
-  slot-bytes = eqb-true (length b) 172 (and-left (eqb (length b) 172) _ e)
+  slot-bytes = eqb-true (length b) 204 (and-left (eqb (length b) 204) _ e)
 
-  parts : (below (replicate 172 255) b && figuresRanged (wordsOf 43 b)) ≡ true
+  parts : (below (replicate 204 255) b && figuresRanged (wordsOf 51 b)) ≡ true
   unfolding slotSound
-  parts = and-right (eqb (length b) 172) _ e
+  parts = and-right (eqb (length b) 204) _ e
 
-  pub slot-ranged : figuresRanged (wordsOf 43 b) ≡ true
-  slot-ranged = and-right (below (replicate 172 255) b) _ parts
+  pub slot-ranged : figuresRanged (wordsOf 51 b) ≡ true
+  slot-ranged = and-right (below (replicate 204 255) b) _ parts
 
-  pub slot-stays : flat (wordsOf 43 b) ≡ b
+  pub slot-stays : flat (wordsOf 51 b) ≡ b
   slot-stays =
       let n = slot-bytes in
-      let f : (i : ℕ) → i < 172 → getD b i 0 ≤ 255 = λ i h. rw (getD-replicate {A = ℕ} 172 i 255 0 h) at (below-all (replicate 172 255) b (and-left (below (replicate 172 255) b) _ parts) i) in
-      flat-words 43 b (omega arith) f ∙ take-all 172 b (omega arith)
+      let f : (i : ℕ) → i < 204 → getD b i 0 ≤ 255 = λ i h. rw (getD-replicate {A = ℕ} 204 i 255 0 h) at (below-all (replicate 204 255) b (and-left (below (replicate 204 255) b) _ parts) i) in
+      flat-words 51 b (omega arith) f ∙ take-all 204 b (omega arith)

@@ -13,20 +13,21 @@ use Rattle.settings.specs.Ranges.{SettingsIn}
 use Rattle.settings.specs.declared.Settings.{Settings}
 use Rattle.second.specs.declared.Near.{Near}
 use Rattle.second.specs.declared.Far.{Far}
+use Rattle.second.specs.declared.Sum.{Sum}
 use Rattle.second.specs.declared.Blocks.{Blocks}
 use Rattle.second.specs.declared.Second.{Second}
 use Rattle.second.specs.Second.{discardOf, closedOf, figuresOf}
 use Rattle.supervisor.specs.Supervisor.{freshOf, markOf}
 use Rattle.history.specs.Ranges.{BlocksIn, AllAtMost, SecondIn, Ranged}
-use Rattle.tandem.specs.Levels.{fourOf, levelFigures}
+use Rattle.tandem.specs.Levels.{fiveOf, levelFigures}
 use Rattle.tandem.specs.Tandem.{freshTandem, markedOf}
 use Rattle.tandem.specs.declared.Level.{Level}
 use Rattle.tandem.specs.declared.Tandem.{Tandem}
 use Rattle.watch.specs.Watch.{LevelCall, gives, records, frames, marks, tandemBy}
 use Rattle.ranges.specs.Sound.{below}
 use Rattle.ranges.proofs.Below.{below-all, below-append, below-front, below-rest, flag-leb}
-use Rattle.slot.specs.Slot.{fourGreatest, figuresRanged}
-use Rattle.late.specs.Late.{fourBy, freshLate, voidFour, voidLevels, voided, lateMarked}
+use Rattle.slot.specs.Slot.{fiveGreatest, figuresRanged}
+use Rattle.late.specs.Late.{fiveBy, freshLate, voidFive, voidLevels, voided, lateMarked}
 use Rattle.late.specs.declared.Erred.{Erred}
 use Rattle.late.specs.declared.Late.{Late}
 use Rattle.late.specs.declared.LateMarked.{LateMarked}
@@ -41,28 +42,36 @@ unfolding discardOf
 discard-in b iae biae i = record {
   near = by-cond (λ (x : Near). x .0 ≤ 400000) iae (λ _. omega arith) (λ _. i .near);
   far = by-cond (λ (x : Far). x .0 ≤ 400000) (iae || biae) (λ _. omega arith) (λ _. i .far);
+  sum = by-cond (λ (x : Sum). x .0 ≤ 3200000) (iae || biae) (λ _. omega arith) (λ _. i .sum);
 }
 
-four-below : (b : Blocks) → BlocksIn b → below fourGreatest (fourBy b) ≡ true
+five-below : (b : Blocks) → BlocksIn b → below fiveGreatest (fiveBy b) ≡ true
 unfolding below
-four-below b i = rw (le-leb (b .near .0) 400000 (i .near), le-leb (b .far .0) 400000 (i .far), flag-leb (b .neards), flag-leb (b .fards))
+five-below b i =
+    rw (
+      le-leb (b .near .0) 400000 (i .near),
+      le-leb (b .far .0) 400000 (i .far),
+      flag-leb (b .neards),
+      flag-leb (b .fards),
+      le-leb (b .sum .0) 3200000 (i .sum),
+    )
 
-level-below : (l : Level) → OneIn l → below fourGreatest (fourOf l) ≡ true
-unfolding fourOf below
+level-below : (l : Level) → OneIn l → below fiveGreatest (fiveOf l) ≡ true
+unfolding fiveOf below
 level-below l i =
-    by-cond (λ (v : List ℕ). below fourGreatest v ≡ true) (l .given)
-    (λ _. four-below (discardOf (l .second .blocks) (l .second .iae) (l .second .biae)) (discard-in (l .second .blocks) (l .second .iae) (l .second .biae) (i .blocks)))
+    by-cond (λ (v : List ℕ). below fiveGreatest v ≡ true) (l .given)
+    (λ _. five-below (discardOf (l .second .blocks) (l .second .iae) (l .second .biae)) (discard-in (l .second .blocks) (l .second .iae) (l .second .biae) (i .blocks)))
     (λ _. refl)
 
--- n groups of four
+-- n groups of five
 abbrev groups : ℕ → List ℕ
 groups zero = []
-groups (suc n) = fourGreatest ++ groups n
+groups (suc n) = fiveGreatest ++ groups n
 
 levels-below : (ls : List Level) → AllIn ls → below (groups (length ls)) (levelFigures ls) ≡ true
 unfolding levelFigures below
 levels-below [] i = refl
-levels-below (l ∷ ls) i = below-append fourGreatest (groups (length ls)) (fourOf l) (levelFigures ls) (level-below l (i .0)) (levels-below ls (i .1))
+levels-below (l ∷ ls) i = below-append fiveGreatest (groups (length ls)) (fiveOf l) (levelFigures ls) (level-below l (i .0)) (levels-below ls (i .1))
 
 -- each of ten heads
 head-low : (n : ℕ) (l : List ℕ) (i : ℕ) → AllAtMost n l → leb (getD l i 0) n ≡ true
@@ -74,7 +83,7 @@ head-low n l i a = le-leb (getD l i 0) n (low l i a)
     low (x ∷ l) (suc i) a = low l i (a .1)
 
 -- frames, heads, section and path of a second that is closed
-base-below : (n : ℕ) (c : Second) → SecondIn c → below (replicate 11 400000 ++ (fourGreatest ++ fourGreatest)) (drop 1 (figuresOf n (closedOf c))) ≡ true
+base-below : (n : ℕ) (c : Second) → SecondIn c → below (replicate 11 400000 ++ (fiveGreatest ++ fiveGreatest)) (drop 1 (figuresOf n (closedOf c))) ≡ true
 unfolding below closedOf
 base-below n c i =
     let h : (k : ℕ) → leb (getD (c .heads) k 0) 400000 ≡ true = λ k. head-low 400000 (c .heads) k (i .heads) in
@@ -95,10 +104,12 @@ base-below n c i =
       le-leb (discardOf (c .section) (c .iae) (c .biae) .far .0) 400000 (d .far),
       flag-leb (discardOf (c .section) (c .iae) (c .biae) .neards),
       flag-leb (discardOf (c .section) (c .iae) (c .biae) .fards),
+      le-leb (discardOf (c .section) (c .iae) (c .biae) .sum .0) 3200000 (d .sum),
       le-leb (c .path .near .0) 400000 (i .path .near),
       le-leb (c .path .far .0) 400000 (i .path .far),
       flag-leb (c .path .neards),
       flag-leb (c .path .fards),
+      le-leb (c .path .sum .0) 3200000 (i .path .sum),
     )
 
 -- the figures behind the number of a second that a mark closes
@@ -110,42 +121,43 @@ closed-below t i e = by (ltb (t .base .seconds) 4294967295) refl
     by true q =
         let l = rw (i .six) at (levels-below (t .levels) (i .levels)) in
         rw q
-        (below-append (replicate 11 400000 ++ (fourGreatest ++ fourGreatest)) (groups 6) (drop 1 (figuresOf (t .base .seconds + 1) (closedOf (t .base .second)))) (levelFigures (t .levels))
+        (below-append (replicate 11 400000 ++ (fiveGreatest ++ fiveGreatest)) (groups 6) (drop 1 (figuresOf (t .base .seconds + 1) (closedOf (t .base .second)))) (levelFigures (t .levels))
         (base-below (t .base .seconds + 1) (t .base .second) (i .base .second)) l)
     by false q = let z : _≡_ {A = ℕ} 4 0 = rw q at e in absurd (omega arith)
 
 -- Discarded again, figures stay in their ranges.
 
-void-below : (e : Erred) (v : List ℕ) → below fourGreatest v ≡ true → below fourGreatest (voidFour e v) ≡ true
-unfolding below voidFour
+void-below : (e : Erred) (v : List ℕ) → below fiveGreatest v ≡ true → below fiveGreatest (voidFive e v) ≡ true
+unfolding below voidFive
 void-below e v h =
-    let m : (i : ℕ) → getD v i 0 ≤ getD fourGreatest i 0 = below-all fourGreatest v h in
+    let m : (i : ℕ) → getD v i 0 ≤ getD fiveGreatest i 0 = below-all fiveGreatest v h in
     let z : (b : Bool) (x n : ℕ) → x ≤ n → leb (cond b 0 x) n ≡ true = λ b x n l. by-cond (λ (y : ℕ). leb y n ≡ true) b (λ _. le-leb 0 n zero-le) (λ _. le-leb x n l) in
     rw (
       z (e .iae) (getD v 0 0) 400000 (m 0),
       z (e .iae || e .biae) (getD v 1 0) 400000 (m 1),
       z (e .iae) (getD v 2 0) 1 (m 2),
       z (e .iae || e .biae) (getD v 3 0) 1 (m 3),
+      z (e .iae || e .biae) (getD v 4 0) 3200000 (m 4),
     )
 
 void-levels-below : (es : List Erred) (v : List ℕ) → below (groups (length es)) v ≡ true → below (groups (length es)) (voidLevels es v) ≡ true
 unfolding voidLevels below
 void-levels-below [] v h = refl
 void-levels-below (e ∷ es) v h =
-    below-append fourGreatest (groups (length es)) (voidFour e (take 4 v)) (voidLevels es (drop 4 v))
-    (void-below e (take 4 v) (below-front fourGreatest (groups (length es)) v h))
-    (void-levels-below es (drop 4 v) (below-rest fourGreatest (groups (length es)) v h))
+    below-append fiveGreatest (groups (length es)) (voidFive e (take 5 v)) (voidLevels es (drop 5 v))
+    (void-below e (take 5 v) (below-front fiveGreatest (groups (length es)) v h))
+    (void-levels-below es (drop 5 v) (below-rest fiveGreatest (groups (length es)) v h))
 
 pub voided-ranged : (e : Erred) (es : List Erred) (v : List ℕ) → length es ≡ 6 → figuresRanged v ≡ true → figuresRanged (voided e es v) ≡ true
 unfolding voided
 voided-ranged e es v n h =
     let h11 = below-rest (replicate 11 400000) (groups 8) v h in
-    let h15 = rw (drop-drop 4 11 v) at (below-rest fourGreatest (groups 7) (drop 11 v) h11) in
-    let h19 = rw (drop-drop 4 15 v) at (below-rest fourGreatest (groups 6) (drop 15 v) h15) in
-    let l = rw n at (void-levels-below es (drop 19 v) (subst⁻¹ (λ (k : ℕ). below (groups k) (drop 19 v) ≡ true) n h19)) in
+    let h16 = rw (drop-drop 5 11 v) at (below-rest fiveGreatest (groups 7) (drop 11 v) h11) in
+    let h21 = rw (drop-drop 5 16 v) at (below-rest fiveGreatest (groups 6) (drop 16 v) h16) in
+    let l = rw n at (void-levels-below es (drop 21 v) (subst⁻¹ (λ (k : ℕ). below (groups k) (drop 21 v) ≡ true) n h21)) in
     below-append (replicate 11 400000) (groups 8) (take 11 v) _ (below-front (replicate 11 400000) (groups 8) v h)
-    (below-append fourGreatest (groups 7) (voidFour e (take 4 (drop 11 v))) _ (void-below e (take 4 (drop 11 v)) (below-front fourGreatest (groups 7) (drop 11 v) h11))
-    (below-append fourGreatest (groups 6) (take 4 (drop 15 v)) _ (below-front fourGreatest (groups 6) (drop 15 v) h15) l))
+    (below-append fiveGreatest (groups 7) (voidFive e (take 5 (drop 11 v))) _ (void-below e (take 5 (drop 11 v)) (below-front fiveGreatest (groups 7) (drop 11 v) h11))
+    (below-append fiveGreatest (groups 6) (take 5 (drop 16 v)) _ (below-front fiveGreatest (groups 6) (drop 16 v) h16) l))
 
 -- A mark, fresh, and every list of calls.
 

@@ -22,7 +22,7 @@ module _ (s : Late) (i : LateIn s) where
   tandem-long : length (tandemBytes (s .tandem)) ≡ 2448
   tandem-long = tandem-trip .long (s .tandem) (i .tandem)
 
-  late-long : length (lateBytes s) ≡ 2620
+  late-long : length (lateBytes s) ≡ 2652
   unfolding lateBytes
   late-long = simp (length-append, tandem-long, slot-long (s .pending) (i .pending))
 
@@ -37,20 +37,20 @@ module _ (s : Late) (i : LateIn s) where
   late-tested : lateSound (lateBytes s) ≡ true
   unfolding lateSound
   late-tested =
-      rw (eq-eqb (length (lateBytes s)) 2620 late-long, first-of, last-of, same-tandem .tested (s .tandem) (i .tandem), slot-tested (s .pending) (i .pending))
+      rw (eq-eqb (length (lateBytes s)) 2652 late-long, first-of, last-of, same-tandem .tested (s .tandem) (i .tandem), slot-tested (s .pending) (i .pending))
 
   late-back : lateFrom (lateBytes s) ≡ s
   unfolding lateFrom
   late-back = rw (first-of, last-of, tandem-trip .back (s .tandem) (i .tandem), words-are (s .pending) (i .pending))
 
 module _ (l : List ℕ) (e : lateSound l ≡ true) where
-  pub late-bytes : length l ≡ 2620
+  pub late-bytes : length l ≡ 2652
   unfolding lateSound
-  late-bytes = eqb-true (length l) 2620 (and-left (eqb (length l) 2620) _ e)
+  late-bytes = eqb-true (length l) 2652 (and-left (eqb (length l) 2652) _ e)
 
   both-sound : (tandemSound (take 2448 l) && slotSound (drop 2448 l)) ≡ true
   unfolding lateSound
-  both-sound = and-right (eqb (length l) 2620) _ e
+  both-sound = and-right (eqb (length l) 2652) _ e
 
   pub tandem-sound : tandemSound (take 2448 l) ≡ true
   tandem-sound = and-left (tandemSound (take 2448 l)) (slotSound (drop 2448 l)) both-sound

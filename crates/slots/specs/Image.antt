@@ -1,4 +1,4 @@
--- The supervisor with its pending second as 2620 bytes: the 2448 of the supervisor with levels as they are without one, then the slot, 172 bytes: the pending
+-- The supervisor with its pending second as 2652 bytes: the 2448 of the supervisor with levels as they are without one, then the slot, 204 bytes: the pending
 -- second's figures behind its number, as words. Assumes nothing.
 use mathlib.Core.Bool.{Bool, _&&_}
 use mathlib.Core.List.{List, _++_}
@@ -14,8 +14,8 @@ unfoldable pub lateBytes : Late → List ℕ
 lateBytes s = tandemBytes (s .tandem) ++ flat (s .pending)
 
 unfoldable pub lateFrom : List ℕ → Late
-lateFrom l = record { tandem = tandemFrom (take 2448 l); pending = wordsOf 43 (drop 2448 l) }
+lateFrom l = record { tandem = tandemFrom (take 2448 l); pending = wordsOf 51 (drop 2448 l) }
 
 -- refusal 17: "handed-in supervisor has a wrong length or a number beyond its range", the pending second's too
 unfoldable pub lateSound : List ℕ → Bool
-lateSound l = eqb (length l) 2620 && (tandemSound (take 2448 l) && slotSound (drop 2448 l))
+lateSound l = eqb (length l) 2652 && (tandemSound (take 2448 l) && slotSound (drop 2448 l))

@@ -28,7 +28,7 @@ pub record SameLate : Type 0 where
 
 -- the round trip, from a supervisor in its ranges and from sound bytes: neither has a second image
 pub record LateTrip : Type 0 where
-  pub long : (s : Late) → LateIn s → length (lateBytes s) ≡ 2620
+  pub long : (s : Late) → LateIn s → length (lateBytes s) ≡ 2652
   pub back : (s : Late) → LateIn s → lateFrom (lateBytes s) ≡ s
   pub stays : (l : List ℕ) → lateSound l ≡ true → lateBytes (lateFrom l) ≡ l
 

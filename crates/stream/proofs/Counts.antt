@@ -79,7 +79,7 @@ pub record Marks (t : Tandem) (m : TandemMarked) : Type 0 where
   pub room : t .base .seconds < 4294967295
   pub none : m .tandem .base .second .frames .0 ≡ 0
   pub more : m .tandem .base .seconds ≡ t .base .seconds + 1
-  pub figures : length (m .figures) ≡ 20 + 4 * length (t .levels)
+  pub figures : length (m .figures) ≡ 22 + 5 * length (t .levels)
 
 pub mark-marks : (t : Tandem) → tandem.markedOf t .refusal ≡ 0 → Marks t (tandem.markedOf t)
 unfolding tandem.markedOf markOf nextSecond
@@ -91,10 +91,10 @@ mark-marks t = by (ltb (t .base .seconds) 4294967295) refl
 
 -- and the pending second
 pub record Lates (m : LateMarked) : Type 0 where
-  pub figures : length (m .figures) ≡ 44
-  pub pending : length (m .late .pending) ≡ 43
+  pub figures : length (m .figures) ≡ 52
+  pub pending : length (m .late .pending) ≡ 51
 
-late-marks : (s : Late) → length (s .pending) ≡ 43 → length (s .tandem .levels) ≡ 6 → tandem.markedOf (s .tandem) .refusal ≡ 0 → Lates (lateMarked s)
+late-marks : (s : Late) → length (s .pending) ≡ 51 → length (s .tandem .levels) ≡ 6 → tandem.markedOf (s .tandem) .refusal ≡ 0 → Lates (lateMarked s)
 unfolding lateMarked
 late-marks s long six e =
     let f = mark-marks (s .tandem) e in

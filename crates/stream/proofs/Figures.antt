@@ -26,7 +26,7 @@ use Rattle.tandem.specs.declared.Tandem.{Tandem}
 use Rattle.watch.specs.Watch.{LevelCall, gives, records, frames, marks, tandemBy, tandemAfter, refusalOf, AllTaken, eventsAmong}
 use Rattle.late.specs.Late.{freshLate, pendingOf, lateMarked}
 use Rattle.late.specs.declared.Late.{Late}
-use Rattle.reports.specs.Reports.{lateBy, lateAfter, lateAt, callsTell, endTells, marksIn, secondAt, upTo, LineDemand3}
+use Rattle.reports.specs.Reports.{lateBy, lateAfter, lateAt, callsTell, endTells, marksIn, secondAt, upTo, LineDemand3, SumBounds}
 use Rattle.reports.proofs.Reports.{reported}
 use Rattle.watch.proofs.Calls.{events-first, plain-of}
 use Rattle.record.specs.Record.{kindOf, recordOf, recordsFrom, recordsOf, sizeOf, bodyOf, framesIn, sectionIn, pathIn}
@@ -384,9 +384,9 @@ lines-are p cs c (never none start) all h =
     rw (z, start, none)
 
 each-line : (p : Settings) (cs : List LevelCall) (st : State) → Comes p cs st → AllTaken (tandem.freshTandem (freshOf p)) cs
-    → (i : ℕ) → 1 ≤ i → i ≤ marksIn cs → LineDemand3 (secondAt p cs i)
+    → (i : ℕ) → 1 ≤ i → i ≤ marksIn cs → LineDemand3 (secondAt p cs i) × SumBounds (secondAt p cs i)
 unfolding eventsAmong
-each-line p cs st (since v e) all = reported p v cs all .demand
+each-line p cs st (since v e) all = λ i low high. (reported p v cs all .demand i low high, reported p v cs all .bounds i low high)
 each-line p cs st (never none start) all = λ i low high. let z : marksIn cs ≡ 0 = ap marksIn none in absurd (omega (arith, z))
 
 -- Demand 3 for the reader.
@@ -402,7 +402,8 @@ reader-demand-3 tell xs =
       accepted = a;
       told = o .told;
       figures = lines-are p (callsOf xs) (scanOf tell xs) (o .comes) (o .accepted) (told ∙ figures-are tell (kindIn xs) 0 st (callsOf xs) (o .accepted));
-      lines = each-line p (callsOf xs) (scanOf tell xs .state) (o .comes) (o .accepted);
+      lines = λ i low high. each-line p (callsOf xs) (scanOf tell xs .state) (o .comes) (o .accepted) i low high .0;
+      bounds = λ i low high. each-line p (callsOf xs) (scanOf tell xs .state) (o .comes) (o .accepted) i low high .1;
       demand = λ earlier later e. demand-3 p earlier (accepted-append (freshOf p) earlier (mark ∷ later) (subst (Accepted (freshOf p)) e a) .0);
     }
 

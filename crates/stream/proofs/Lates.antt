@@ -11,7 +11,7 @@ use Rattle.supervisor.specs.Supervisor.{markOf}
 use Rattle.tandem.specs.Tandem.{markedOf}
 use Rattle.tandem.specs.declared.Tandem.{Tandem}
 use Rattle.watch.specs.Watch.{LevelCall, gives, records, frames, marks, tandemBy, tandemAfter}
-use Rattle.late.specs.Late.{levelErred, voidFour, voidLevels, voided, sectionErred, levelsErred, lateMarked}
+use Rattle.late.specs.Late.{levelErred, voidFive, voidLevels, voided, sectionErred, levelsErred, lateMarked}
 use Rattle.late.specs.declared.Erred.{Erred}
 use Rattle.late.specs.declared.Late.{Late}
 use Rattle.reports.specs.Reports.{lateBy, lateAfter}
@@ -47,24 +47,24 @@ late-after s [] = refl
 late-after s (c ∷ cs) = late-after (lateBy s c) cs ∙ ap (λ (t : Tandem). tandemAfter t cs) (late-by s c)
 
 -- the discard leaves as many figures
-void-levels-long : (es : List Erred) (v : List ℕ) → length (voidLevels es v) ≡ 4 * length es
-unfolding voidLevels voidFour
+void-levels-long : (es : List Erred) (v : List ℕ) → length (voidLevels es v) ≡ 5 * length es
+unfolding voidLevels voidFive
 void-levels-long [] v = refl
-void-levels-long (e ∷ es) v = omega (arith, void-levels-long es (drop 4 v))
+void-levels-long (e ∷ es) v = omega (arith, void-levels-long es (drop 5 v))
 
-four-long : (e : Erred) (w : List ℕ) → length (voidFour e w) ≡ 4
-unfolding voidFour
-four-long e w = refl
+five-long : (e : Erred) (w : List ℕ) → length (voidFive e w) ≡ 5
+unfolding voidFive
+five-long e w = refl
 
-voided-long : (section : Erred) (es : List Erred) (v : List ℕ) → length v ≡ 43 → length es ≡ 6 → length (voided section es v) ≡ 43
+voided-long : (section : Erred) (es : List Erred) (v : List ℕ) → length v ≡ 51 → length es ≡ 6 → length (voided section es v) ≡ 51
 unfolding voided
 voided-long section es v long six =
     let a : length (take 11 v) ≡ 11 = length-take-le 11 v (omega arith) in
-    let b : length (take 4 (drop 15 v)) ≡ 4 = length-take-le 4 (drop 15 v) (simp length-drop (omega arith)) in
-    let c = void-levels-long es (drop 19 v) in
-    let d : length (voidFour section (take 4 (drop 11 v))) ≡ 4 = four-long section (take 4 (drop 11 v)) in
-    rw (length-append (take 11 v) _, length-append (voidFour section (take 4 (drop 11 v))) _, length-append (take 4 (drop 15 v)) _, a, b, c, d) (omega arith)
+    let b : length (take 5 (drop 16 v)) ≡ 5 = length-take-le 5 (drop 16 v) (simp length-drop (omega arith)) in
+    let c = void-levels-long es (drop 21 v) in
+    let d : length (voidFive section (take 5 (drop 11 v))) ≡ 5 = five-long section (take 5 (drop 11 v)) in
+    rw (length-append (take 11 v) _, length-append (voidFive section (take 5 (drop 11 v))) _, length-append (take 5 (drop 16 v)) _, a, b, c, d) (omega arith)
 
-pub reported-long : (s : Late) → length (s .pending) ≡ 43 → length (s .tandem .levels) ≡ 6
-    → length (voided (sectionErred (s .tandem)) (levelsErred (s .tandem)) (s .pending)) ≡ 43
+pub reported-long : (s : Late) → length (s .pending) ≡ 51 → length (s .tandem .levels) ≡ 6
+    → length (voided (sectionErred (s .tandem)) (levelsErred (s .tandem)) (s .pending)) ≡ 51
 reported-long s long six = voided-long (sectionErred (s .tandem)) (levelsErred (s .tandem)) (s .pending) long (length-map (s .tandem .levels) levelErred ∙ six)

@@ -28,7 +28,7 @@ groups-each : (rule : ℕ → Level → Level) (n : ℕ) (ls : List Level) (v : 
     → givenGroups (eachFrom rule n ls) v ≡ givenGroups ls v
 unfolding givenGroups
 groups-each rule n [] v keeps = refl
-groups-each rule n (l ∷ ls) v keeps = rw (keeps n l, groups-each rule (suc n) ls (drop 4 v) keeps)
+groups-each rule n (l ∷ ls) v keeps = rw (keeps n l, groups-each rule (suc n) ls (drop 5 v) keeps)
 
 begun-frames : (s : Supervisor) → 0 < s .second .frames .0 → begun s ≡ true
 begun-frames s h = rw (lt-ltb 0 (s .second .frames .0) h) (either (ltb 0 (s .seconds)))
@@ -96,4 +96,4 @@ groups-after t (c ∷ cs) b all v =
 
 -- the figures listed after a mark are those listed by the levels after every call that follows
 pub listed-after : (t : Tandem) (cs : List LevelCall) → begun (t .base) ≡ true → AllTaken t cs → (v : List ℕ) → listedOf (tandemAfter t cs .levels) v ≡ listedOf (t .levels) v
-listed-after t cs b all v = ap (λ (l : List ℕ). take 20 v ++ l) (groups-after t cs b all (drop 20 v))
+listed-after t cs b all v = ap (λ (l : List ℕ). take 22 v ++ l) (groups-after t cs b all (drop 22 v))

@@ -12,15 +12,15 @@ abbrev pub givenAmong : List Level → ℕ
 givenAmong [] = 0
 givenAmong (l ∷ ls) = cond (l .given) 1 0 + givenAmong ls
 
--- What holds of the offset and of the frames accepted wherever a scan stands: both are below 2 ^ 57. A mark has 44 figures,
--- a pending second 43 behind its number, and the levels are six.
+-- What holds of the offset and of the frames accepted wherever a scan stands: both are below 2 ^ 57. A mark has 52 figures,
+-- a pending second 51 behind its number, and the levels are six.
 pub record Counted (at frames : ℕ) (st : State) : Type 0 where
   pub fresh : st .begun ≡ false → (at ≡ 0) × (frames ≡ 0)
   pub held : st .sup .tandem .base .second .frames .0 ≤ 400000
   pub seconds : st .sup .tandem .base .seconds ≤ 4294967295
   pub few : frames ≤ 400000 * st .sup .tandem .base .seconds + st .sup .tandem .base .second .frames .0
-  pub figures : length (st .last) ≡ 44
-  pub pending : length (st .sup .pending) ≡ 43
+  pub figures : length (st .last) ≡ 52
+  pub pending : length (st .sup .pending) ≡ 51
   pub six : length (st .sup .tandem .levels) ≡ 6
   pub most : givenAmong (st .sup .tandem .levels) ≤ 6
   pub within : at ≤ 83 + 44 * givenAmong (st .sup .tandem .levels) + 77 * frames + 4 * st .sup .tandem .base .seconds

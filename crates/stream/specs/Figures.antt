@@ -13,7 +13,7 @@ use Rattle.settings.specs.declared.Settings.{Settings}
 use Rattle.tandem.specs.Tandem.{freshTandem}
 use Rattle.watch.specs.Watch.{LevelCall, gives, records, frames, marks, framedAt, AllTaken, eventsAmong}
 use Rattle.late.specs.Late.{freshLate, lateMarked}
-use Rattle.reports.specs.Reports.{lateBy, marksIn, secondAt, upTo, LineDemand3}
+use Rattle.reports.specs.Reports.{lateBy, marksIn, secondAt, upTo, LineDemand3, SumBounds}
 use Rattle.record.specs.declared.Record.{Record}
 use Rattle.record.specs.declared.Record.the-variants.{Frame, Mark, Provisioning, Level, LevelFrame, Refused}
 use Rattle.trace.specs.declared.State.{State}
@@ -136,13 +136,15 @@ secondsOf p cs = map (secondAt p cs) (upTo (marksIn cs))
 
 -- Demand 3 for the reader, of every trace: its calls up to the first record refused are accepted, and so are their frames and marks by line, section and
 -- path alone; all that its scan tells, in its order, is what they tell; each second that a mark closes has its line, once and in order, with the figures that the
--- calls alone say, of line, section and path and of the provisioned levels; each line is as demand 3 says, and each mark closes a second as demand 3 says.
+-- calls alone say, of line, section and path and of the provisioned levels; each line is as demand 3 says, its sums within their
+-- bounds (document 02, K7), and each mark closes a second as demand 3 says.
 pub record ReaderDemand3 (tell : Bool) (xs : List ℕ) : Type 0 where
   pub calls : AllTaken (freshTandem (freshOf (settingsIn xs))) (callsOf xs)
   pub accepted : Accepted (freshOf (settingsIn xs)) (eventsOf xs)
   pub told : scanOf tell xs .told ≡ toldFirst tell xs ++ toldBy tell (kindIn xs) 0 (provisioned (settingsIn xs)) (callsOf xs)
   pub figures : linesIn (scanOf tell xs) ≡ map (listedIn (scanOf tell xs .state)) (secondsOf (settingsIn xs) (callsOf xs))
   pub lines : (i : ℕ) → 1 ≤ i → i ≤ marksIn (callsOf xs) → LineDemand3 (secondAt (settingsIn xs) (callsOf xs) i)
+  pub bounds : (i : ℕ) → 1 ≤ i → i ≤ marksIn (callsOf xs) → SumBounds (secondAt (settingsIn xs) (callsOf xs) i)
   pub demand : (earlier later : List Event) → eventsOf xs ≡ earlier ++ (mark ∷ later) → Demand3 (settingsIn xs) earlier
 
 -- "E: marks and frames accepted": a scan counts the marks and the frames accepted.

@@ -1,4 +1,4 @@
--- The scan of a whole trace, and the scan of it in pieces (document 01, "Trace records and the listing"; document 02, K1, K3). Assumes nothing.
+-- The scan of a whole trace, and the scan of it in pieces (document 01, "Trace records and the listing"; document 02, K1, K3, K7). Assumes nothing.
 use Prim.Native.Nat.{ℕ, _+_}
 use mathlib.Core.Path.{_≡_}
 use mathlib.Core.Bool.{Bool, true, cond}
@@ -16,8 +16,8 @@ use Rattle.tandem.specs.Levels.{listedOf}
 use Rattle.reports.specs.Reports.{endTells}
 use Rattle.trace.specs.Scan.{takenOf, startOf}
 
--- The figures of an S line, of the 44 of a second: "Each S line gains the four figures of every provisioned level, lowest level first" (document
--- 02, K1).
+-- The figures of an S line, of the 52 of a second: "Each S line gains the four figures of every provisioned level, lowest level first" (document
+-- 02, K1), and "The sum comes last in each layer's group of S fields" (K7), so they are five.
 abbrev pub listedIn : State → List ℕ → List ℕ
 listedIn st figures = listedOf (st .sup .tandem .levels) figures
 

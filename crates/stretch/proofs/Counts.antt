@@ -10,11 +10,9 @@ use borrow.Author.Tests.{ltb-true}
 use Rattle.answer.specs.Bits.{flag}
 use Rattle.answer.specs.Checks.{check}
 use Rattle.answer.proofs.Checks.{passed}
-use Rattle.settings.specs.declared.Settings.{Settings}
 use Rattle.history.specs.History.{Frame, Event, frame, mark}
 use Rattle.history.specs.Ledger.{marks}
 use Rattle.page.specs.Page.{inSecond, yes, tally, held, frameRefusal, Taken}
-use Rattle.sheet.specs.Sheet.{LevelEvent, counted, closed, plainly, nears}
 
 -- a flag, and a count that may be voided
 pub flag-low : (b : Bool) → flag b ≤ 1
@@ -61,13 +59,3 @@ long-is q (mark ∷ h) = refl
 
 pub tally-low : (q : Frame → List Frame → Bool) (h : List Event) → tally q h ≤ held h
 tally-low q h = omega (arith, yes-low (inSecond q h), long-is q h)
-
--- and so does a level's
-nears-long : (p : Settings) (n : ℕ) (h : List LevelEvent) → length (nears p n h) ≡ held (plainly h)
-unfolding inSecond nears
-nears-long p n [] = refl
-nears-long p n (counted f counts ∷ h) = omega (arith, nears-long p n h)
-nears-long p n (closed ∷ h) = refl
-
-pub nears-low : (p : Settings) (n : ℕ) (h : List LevelEvent) → yes (nears p n h) ≤ held (plainly h)
-nears-low p n h = omega (arith, yes-low (nears p n h), nears-long p n h)

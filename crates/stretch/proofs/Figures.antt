@@ -1,38 +1,23 @@
 -- The figures of a second within their bounds. Assumes nothing.
-use Prim.Native.Nat.{ℕ, zero, suc, _+_, _≤_}
-use mathlib.Core.Path.{_≡_, refl, sym, _∙_}
+use Prim.Native.Nat.{ℕ, _+_, _≤_, _<_}
+use mathlib.Core.Path.{_≡_, refl, ap, sym, _∙_}
 use mathlib.Core.Bool.{Bool, false, cond}
 use mathlib.Core.List.{List, [], _∷_, _++_}
 use native.Mathlib.Omega.{arith}
 use lib.Dec.{eqb}
-use lib.ListN.{getD, drop}
-use Rattle.answer.specs.Bits.{flag}
+use lib.ListN.{getD, drop, List·getD-append}
+use lib.Seq.{getD-drop}
 use Rattle.settings.specs.declared.Settings.{Settings}
 use Rattle.history.specs.History.{Frame}
 use Rattle.history.specs.Ledger.{marks, sumOf}
 use Rattle.history.specs.Ranges.{AllAtMost}
+use Rattle.history.proofs.Ranges.{most-at}
 use Rattle.page.specs.Page as page
-use Rattle.sheet.specs.Sheet as sheet
-use Rattle.sheet.specs.Sheet.{Provisioned, never, with, provisioned}
 use Rattle.watch.specs.Watch.{LevelCall}
-use Rattle.reports.specs.Reports.{plainOf, historyOf, Next, either, groupBy, groupsFrom, reportOf, LineDemand3}
-use Rattle.summary.specs.Stretch.{tenOf}
-use Rattle.stretch.proofs.Counts.{flag-low, void-low, tally-low, nears-low}
-
--- one bound before the others
-infixr 20 _◂_
-_◂_ : {A B : Type 0} → A → B → A × B
-x ◂ y = (x, y)
-
--- each number of a list, and of two
-at-low : (l : List ℕ) (i : ℕ) → AllAtMost 400000 l → getD l i 0 ≤ 400000
-at-low [] i a = omega arith
-at-low (x ∷ l) zero a = a .0
-at-low (x ∷ l) (suc i) a = at-low l i (a .1)
-
-both-low : (l m : List ℕ) → AllAtMost 400000 l → AllAtMost 400000 m → AllAtMost 400000 (l ++ m)
-both-low [] m a b = b
-both-low (x ∷ l) m a b = (a .0, both-low l m (a .1) b)
+use Rattle.reports.specs.Reports.{plainOf, Next, either, reportOf, LineDemand3}
+use Rattle.reports.proofs.Sums.{sum-bounds}
+use Rattle.summary.specs.Stretch.{LayerIn, SecondIn, tenOf}
+use Rattle.stretch.proofs.Counts.{flag-low, void-low, tally-low}
 
 ten-sum : (a b c d e f g h i j : ℕ) → sumOf (a ∷ b ∷ c ∷ d ∷ e ∷ f ∷ g ∷ h ∷ i ∷ j ∷ []) ≡ a + b + c + d + e + f + g + h + i + j
 ten-sum a b c d e f g h i j = omega arith
@@ -70,20 +55,20 @@ module _ (p : Settings) (cs : List LevelCall) (next : Next) where
   unfolding reportOf
   fifteen = flag-low far-ds
 
-  pub eighteen : getD (reportOf p cs next) 18 0 ≤ 1
-  unfolding reportOf
-  eighteen = flag-low path-near-ds
-
   pub nineteen : getD (reportOf p cs next) 19 0 ≤ 1
   unfolding reportOf
-  nineteen = flag-low path-far-ds
+  nineteen = flag-low path-near-ds
+
+  pub twenty : getD (reportOf p cs next) 20 0 ≤ 1
+  unfolding reportOf
+  twenty = flag-low path-far-ds
 
   -- the ten heads add up to the frames
   pub heads-are : LineDemand3 (reportOf p cs next) → tenOf (λ (i : ℕ). getD (reportOf p cs next) (i + 2) 0) ≡ getD (reportOf p cs next) 1 0
   unfolding reportOf
   heads-are d = sym (ten-sum _ _ _ _ _ _ _ _ _ _) ∙ d .sum
 
-  -- all but the number are 400,000 at most, as the frames are
+  -- counts are 400,000 at most, as the frames are, and sums 3,200,000
   module _ (few : page.held (plainOf cs) ≤ 400000) where
     count-low : (q : Frame → List Frame → Bool) → page.tally q (plainOf cs) ≤ 400000
     count-low q = omega (arith, tally-low q (plainOf cs))
@@ -91,36 +76,34 @@ module _ (p : Settings) (cs : List LevelCall) (next : Next) where
     under-low : (k : ℕ) → page.under p k (plainOf cs) ≤ 400000
     under-low k = count-low (λ f l. eqb (page.head p f l) k)
 
-    ds-low : (b : Bool) → flag b ≤ 400000
-    ds-low b = omega (arith, flag-low b)
-
-    level-low : (n : ℕ) (w : Provisioned) → AllAtMost 400000 (groupBy p n w cs next)
-    unfolding groupBy
-    level-low n never = let none : 0 ≤ 400000 = omega arith in none ◂ none ◂ none ◂ none ◂ tt
-    level-low n (with o) =
-        let voided : Bool = either (λ k. sheet.discarded p n o (historyOf k)) cs next in
-        let far-voided : Bool = either (λ k. sheet.farDiscarded p n o (historyOf k)) cs next in
-        let near : page.yes (sheet.nears p n (historyOf cs)) ≤ 400000 = omega (arith, nears-low p n (historyOf cs)) in
-        void-low voided near
-        ◂ void-low far-voided (count-low (sheet.far p n))
-        ◂ ds-low (cond voided false (page.some (sheet.nearDs p n o) (plainOf cs)))
-        ◂ ds-low (cond far-voided false (page.some (sheet.farDs p n o) (plainOf cs)))
-        ◂ tt
-
-    levels-low : (k n : ℕ) → AllAtMost 400000 (groupsFrom k n p cs next)
-    unfolding groupsFrom
-    levels-low zero n = tt
-    levels-low (suc k) n = both-low (groupBy p n (provisioned n cs) cs next) (groupsFrom k (suc n) p cs next) (level-low n (provisioned n cs)) (levels-low k (suc n))
-
-    figures-low : AllAtMost 400000 (drop 1 (reportOf p cs next))
+    head-low : (i : ℕ) → i < 10 → getD (reportOf p cs next) (i + 2) 0 ≤ 400000
     unfolding reportOf
-    figures-low =
-        few
-        ◂ under-low 0 ◂ under-low 1 ◂ under-low 2 ◂ under-low 3 ◂ under-low 4 ◂ under-low 5 ◂ under-low 6 ◂ under-low 7 ◂ under-low 8 ◂ under-low 9
-        ◂ void-low iae (count-low (page.sectionNear p)) ◂ void-low far (count-low (page.sectionFar p)) ◂ ds-low near-ds ◂ ds-low far-ds
-        ◂ count-low (page.pathNear p) ◂ count-low (page.pathFar p) ◂ ds-low path-near-ds ◂ ds-low path-far-ds
-        ◂ levels-low 6 1
+    head-low i h =
+        let u : ℕ → ℕ = λ k. page.under p k (plainOf cs) in
+        let heads : List ℕ = u 0 ∷ u 1 ∷ u 2 ∷ u 3 ∷ u 4 ∷ u 5 ∷ u 6 ∷ u 7 ∷ u 8 ∷ u 9 ∷ [] in
+        let all : AllAtMost 400000 heads =
+        (under-low 0, (under-low 1, (under-low 2, (under-low 3, (under-low 4, (under-low 5, (under-low 6, (under-low 7, (under-low 8, (under-low 9, tt)))))))))) in
+        let e : i + 2 ≡ 2 + i = omega arith in
+        let g : getD (reportOf p cs next) (i + 2) 0 ≡ getD heads i 0 =
+        ap (λ (m : ℕ). getD (reportOf p cs next) m 0) e
+        ∙ sym (getD-drop 2 (reportOf p cs next) i 0)
+        ∙ List·getD-append heads (drop 12 (reportOf p cs next)) 0 i h in
+        omega (arith, g, most-at 400000 heads i all)
 
-    pub figure-low : (i : ℕ) → getD (reportOf p cs next) (suc i) 0 ≤ 400000
+    section-low : LayerIn (reportOf p cs next) 12
     unfolding reportOf
-    figure-low i = at-low (drop 1 (reportOf p cs next)) i figures-low
+    section-low =
+        let f : cond far 0 (page.tally (page.sectionFar p) (plainOf cs)) ≤ 400000 = void-low far (count-low (page.sectionFar p)) in
+        let b = sum-bounds p cs next .section in
+        record { near = void-low iae (count-low (page.sectionNear p)); far = f; sum = omega (arith, f, b .1) }
+
+    path-low : LayerIn (reportOf p cs next) 17
+    unfolding reportOf
+    path-low =
+        let f : page.tally (page.pathFar p) (plainOf cs) ≤ 400000 = count-low (page.pathFar p) in
+        let b = sum-bounds p cs next .path in
+        record { near = count-low (page.pathNear p); far = f; sum = omega (arith, f, b .1) }
+
+    pub second-low : SecondIn (reportOf p cs next)
+    unfolding reportOf
+    second-low = record { frames = few; heads = head-low; section = section-low; path = path-low }

@@ -19,12 +19,12 @@ use Rattle.reports.proofs.Figures.{accepted-is}
 use Rattle.reports.proofs.Reports.{reported}
 use Rattle.summary.specs.Summary.{emptySummary, joinOf, secondOf}
 use Rattle.summary.specs.Laws.{Sound, joined}
-use Rattle.summary.specs.Stretch.{summaryOf, SecondIn, Numbered, joinAll, pieced, tenOf, Filed}
+use Rattle.summary.specs.Stretch.{summaryOf, SecondIn, Numbered, joinAll, pieced, tenOf, Filed, EachBounded}
 use Rattle.summary.specs.declared.Summary.{Summary}
-use Rattle.summary.proofs.Stretch.{stretch-valid, neighbours, every-cut, heads-whole, second-alone}
+use Rattle.summary.proofs.Stretch.{stretch-valid, neighbours, every-cut, heads-whole, second-alone, bounds}
 use Rattle.stretch.specs.Stretches.{secondsFrom, stretch, singles, quarterOf, quarters, dayOf, EveryStretches}
 use Rattle.stretch.proofs.Counts.{held-low, marks-low}
-use Rattle.stretch.proofs.Figures.{number-is, fourteen, fifteen, eighteen, nineteen, heads-are, figure-low}
+use Rattle.stretch.proofs.Figures.{number-is, fourteen, fifteen, nineteen, twenty, heads-are, second-low}
 
 -- Stretches as lists.
 module _ (p : Settings) (cs : List LevelCall) where
@@ -115,11 +115,11 @@ module _ (p : Settings) (v : SettingsIn p) (cs : List LevelCall) (a : AllTaken (
     numbered = number-is p before _ ∙ omega (arith, at .number, marks-plain before)
 
     pub second-in : SecondIn (secondAt p cs i)
-    second-in = record { counts = figure-low p before _ (held-low (plainOf before) (accepted-taken p v (plainOf before) (accepted-is p v before before-taken))) }
+    second-in = second-low p before _ (held-low (plainOf before) (accepted-taken p v (plainOf before) (accepted-is p v before before-taken)))
 
     single : secondOf (secondAt p cs i) ≡ stretch p cs i 1
     unfolding secondsFrom
-    single = second-alone (secondAt p cs i) (fourteen p before _) (fifteen p before _) (eighteen p before _) (nineteen p before _)
+    single = second-alone (secondAt p cs i) (fourteen p before _) (fifteen p before _) (nineteen p before _) (twenty p before _)
 
     filed : tenOf (λ (k : ℕ). getD (secondAt p cs i) (k + 2) 0) ≡ getD (secondAt p cs i) 1 0
     filed = heads-are p before _ (reported p v cs a .demand i low high)
@@ -138,6 +138,13 @@ module _ (p : Settings) (v : SettingsIn p) (cs : List LevelCall) (a : AllTaken (
   filed-from i (suc n) low high =
       let one : i ≤ marksIn cs = omega (arith, high) in
       (filed i low one, filed-from (suc i) n (omega arith) (omega (arith, high)))
+
+  bounded-from : (i n : ℕ) → 1 ≤ i → i + n ≤ marksIn cs + 1 → EachBounded (from p cs i n)
+  unfolding secondsFrom
+  bounded-from i zero low high = tt
+  bounded-from i (suc n) low high =
+      let b = reported p v cs a .bounds i low (omega (arith, high)) in
+      (b .section, (b .path, bounded-from (suc i) n (omega arith) (omega (arith, high))))
 
   -- the summary of a stretch is one by 26
   module _ (i n : ℕ) (low : 1 ≤ i) (high : i + n ≤ marksIn cs + 1) where
@@ -205,5 +212,6 @@ stretches p v cs a = record {
   single = single p v cs a;
   quarter = quarter-is p v cs a;
   day = day-is p v cs a;
+  bounded = λ i n low high. bounds (from p cs i n) (bounded-from p v cs a i n low high);
   whole = λ i n low high. heads-whole (from p cs i n) (filed-from p v cs a i n low high);
 }

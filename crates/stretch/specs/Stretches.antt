@@ -13,7 +13,7 @@ use Rattle.late.specs.Late.{freshLate}
 use Rattle.reports.specs.Reports.{lateAt, callsTell, endTells, marksIn, secondAt}
 use Rattle.summary.specs.Summary.{emptySummary, joinOf, secondOf}
 use Rattle.summary.specs.Laws.{Sound, joined}
-use Rattle.summary.specs.Stretch.{summaryOf, joinAll, tenOf}
+use Rattle.summary.specs.Stretch.{summaryOf, joinAll, tenOf, BoundedBoth}
 use Rattle.summary.specs.declared.Summary.{Summary}
 
 -- n seconds from second i on, by their figures as they are reported
@@ -57,6 +57,8 @@ pub record Stretches (p : Settings) (cs : List LevelCall) : Type 0 where
   -- "and its summary is the joining of those": a quarter-hour whose seconds are all reported; and a day of its 96 quarter-hours
   pub quarter : (q : ℕ) → 900 * q + 900 ≤ marksIn cs → joinAll emptySummary (singles p cs (900 * q + 1) 900) ≡ joined (quarterOf p cs q)
   pub day : (d : ℕ) → 86400 * d + 86400 ≤ marksIn cs → joinAll emptySummary (quarters p cs (96 * d) 96) ≡ joined (dayOf p cs d)
+  -- in section and path "the sum is at least the far blocks and at most eight times them" (document 02, K7), as in each of the seconds
+  pub bounded : (i n : ℕ) → 1 ≤ i → i + n ≤ marksIn cs + 1 → BoundedBoth (stretch p cs i n)
   -- the ten heads add up to the frames
   pub whole : (i n : ℕ) → 1 ≤ i → i + n ≤ marksIn cs + 1 → tenOf (λ (h : ℕ). getD (stretch p cs i n .heads) h 0) ≡ stretch p cs i n .frames
 

@@ -7,8 +7,8 @@ use native.Mathlib.Omega.{arith}
 use lib.Dec.{eqb, leb}
 use lib.ListN.{getD}
 use Rattle.answer.proofs.Cond.{and-left, and-right}
-use Rattle.summary.specs.Summary.{fourGood, headsGood, validOf, FourLow, HeadsLow, Low}
-use Rattle.summary.specs.declared.Four.{Four}
+use Rattle.summary.specs.Summary.{fiveGood, headsGood, validOf, FiveLow, HeadsLow, Low}
+use Rattle.summary.specs.declared.Five.{Five}
 use Rattle.summary.specs.declared.Summary.{Summary}
 use borrow.Author.Tests.{leb-true, leb-false, le-leb, lt-leb}
 
@@ -22,11 +22,12 @@ last-is first length h = by (leb (first + length) 4294967296) refl
 
 -- The parts of a summary that is one: within their bounds, as numbers.
 
-pub record FourIn (f : Four) (most length : ℕ) : Type 0 where
+pub record FiveIn (f : Five) (most sums length : ℕ) : Type 0 where
   pub near : f .near ≤ most
   pub far : f .far ≤ most
   pub neards : f .neards ≤ length
   pub fards : f .fards ≤ length
+  pub sum : f .sum ≤ sums
 
 abbrev pub HeadsIn : List ℕ → ℕ → Type 0
 HeadsIn h most = (i : ℕ) → i < 10 → getD h i 0 ≤ most
@@ -37,10 +38,10 @@ pub record Parts (s : Summary) : Type 0 where
   pub last : s .first + s .length ≤ 4294967296
   pub frames : s .frames ≤ 400000 * s .length
   pub heads : HeadsIn (s .heads) (400000 * s .length)
-  pub section : FourIn (s .section) (400000 * s .length) (s .length)
-  pub path : FourIn (s .path) (400000 * s .length) (s .length)
+  pub section : FiveIn (s .section) (400000 * s .length) (3200000 * s .length) (s .length)
+  pub path : FiveIn (s .path) (400000 * s .length) (3200000 * s .length) (s .length)
 
-module _ (f : Four) (most length : ℕ) where
+module _ (f : Five) (most sums length : ℕ) where
   abbrev fp : Bool
   fp = leb (f .near) most
 
@@ -53,21 +54,26 @@ module _ (f : Four) (most length : ℕ) where
   abbrev ft : Bool
   ft = leb (f .fards) length
 
-  four-in : fourGood f most length ≡ true → FourIn f most length
-  unfolding fourGood
-  four-in e =
-      let a = and-left (fp && fq && fr) ft e in
+  abbrev fu : Bool
+  fu = leb (f .sum) sums
+
+  five-in : fiveGood f most sums length ≡ true → FiveIn f most sums length
+  unfolding fiveGood
+  five-in e =
+      let d = and-left (fp && fq && fr && ft) fu e in
+      let a = and-left (fp && fq && fr) ft d in
       let b = and-left (fp && fq) fr a in
       record {
         near = leb-true _ _ (and-left fp fq b);
         far = leb-true _ _ (and-right fp fq b);
         neards = leb-true _ _ (and-right (fp && fq) fr a);
-        fards = leb-true _ _ (and-right (fp && fq && fr) ft e);
+        fards = leb-true _ _ (and-right (fp && fq && fr) ft d);
+        sum = leb-true _ _ (and-right (fp && fq && fr && ft) fu e);
       }
 
-  pub four-good : FourIn f most length → fourGood f most length ≡ true
-  unfolding fourGood
-  four-good p = rw (le-leb _ _ (p .near), le-leb _ _ (p .far), le-leb _ _ (p .neards), le-leb _ _ (p .fards))
+  pub five-good : FiveIn f most sums length → fiveGood f most sums length ≡ true
+  unfolding fiveGood
+  five-good p = rw (le-leb _ _ (p .near), le-leb _ _ (p .far), le-leb _ _ (p .neards), le-leb _ _ (p .fards), le-leb _ _ (p .sum))
 
 module _ (h : List ℕ) (most : ℕ) where
   abbrev t : ℕ → Bool
@@ -119,20 +125,24 @@ module _ (h : List ℕ) (most : ℕ) where
       )
 
 -- a length is low too
-pub low-of : {x : ℕ} → x ≤ 86400 → x ≤ 34560000000
+pub low-of : {x : ℕ} → x ≤ 86400 → x ≤ 276480000000
 low-of h = omega arith
 
-four-low : (f : Four) (length : ℕ) → length ≤ 86400 → FourIn f (400000 * length) length → FourLow f
-four-low f length n p =
+five-low : (f : Five) (length : ℕ) → length ≤ 86400 → FiveIn f (400000 * length) (3200000 * length) length → FiveLow f
+five-low f length n p =
     let a : f .near ≤ 400000 * length = p .near in
     let b : f .far ≤ 400000 * length = p .far in
     let c : f .neards ≤ length = p .neards in
     let d : f .fards ≤ length = p .fards in
-    record { near = omega arith; far = omega arith; neards = omega arith; fards = omega arith }
+    let e : f .sum ≤ 3200000 * length = p .sum in
+    record { near = omega arith; far = omega arith; neards = omega arith; fards = omega arith; sum = omega arith }
 
 module _ (s : Summary) where
   abbrev most : ℕ
   most = 400000 * s .length
+
+  abbrev sums : ℕ
+  sums = 3200000 * s .length
 
   abbrev l : Bool
   l = leb (s .length) 86400
@@ -150,10 +160,10 @@ module _ (s : Summary) where
   p = headsGood (s .heads) most
 
   abbrev q : Bool
-  q = fourGood (s .section) most (s .length)
+  q = fiveGood (s .section) most sums (s .length)
 
   abbrev r : Bool
-  r = fourGood (s .path) most (s .length)
+  r = fiveGood (s .path) most sums (s .length)
 
   pub valid-parts : validOf s ≡ true → Parts s
   unfolding validOf
@@ -169,8 +179,8 @@ module _ (s : Summary) where
         last = leb-true _ _ (and-right (l && m) n d);
         frames = leb-true _ _ (and-right (l && m && n) o c);
         heads = heads-in (s .heads) most (and-right (l && m && n && o) p b);
-        section = four-in (s .section) most (s .length) (and-right (l && m && n && o && p) q a);
-        path = four-in (s .path) most (s .length) (and-right (l && m && n && o && p && q) r e);
+        section = five-in (s .section) most sums (s .length) (and-right (l && m && n && o && p) q a);
+        path = five-in (s .path) most sums (s .length) (and-right (l && m && n && o && p && q) r e);
       }
 
   pub parts-valid : Parts s → validOf s ≡ true
@@ -182,8 +192,8 @@ module _ (s : Summary) where
         le-leb _ _ (x .last),
         le-leb _ _ (x .frames),
         heads-good (s .heads) most (x .heads),
-        four-good (s .section) most (s .length) (x .section),
-        four-good (s .path) most (s .length) (x .path),
+        five-good (s .section) most sums (s .length) (x .section),
+        five-good (s .path) most sums (s .length) (x .path),
       )
 
   pub valid-low : validOf s ≡ true → Low s
@@ -196,6 +206,6 @@ module _ (s : Summary) where
         last = x .last;
         frames = omega arith;
         heads = λ i k. let y : getD (s .heads) i 0 ≤ most = x .heads i k in omega arith;
-        section = four-low (s .section) (s .length) short (x .section);
-        path = four-low (s .path) (s .length) short (x .path);
+        section = five-low (s .section) (s .length) short (x .section);
+        path = five-low (s .path) (s .length) short (x .path);
       }

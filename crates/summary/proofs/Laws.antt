@@ -7,20 +7,20 @@ use native.Mathlib.Omega.{arith}
 use lib.Dec.{eqb, leb}
 use lib.ListN.{length, getD}
 use borrow.Author.Tests.{leb-true, le-leb, lt-leb, leb-false, eqb-true, eq-eqb, ne-eqb, eqb-false}
-use Rattle.summary.specs.Summary.{fourGood, headsGood, validOf, fourSum, headsSum, bothAt, addedOf, followsOn, placeRefusal, joinRefusal, emptySummary, joinOf}
+use Rattle.summary.specs.Summary.{fiveGood, headsGood, validOf, fiveSum, headsSum, bothAt, addedOf, followsOn, placeRefusal, joinRefusal, emptySummary, joinOf}
 use Rattle.summary.specs.Laws.{Sound, accepted, joined, EmptyUnit, Closed, Associative, EveryUnit, EveryAssociative}
 use Rattle.answer.proofs.Cond.{and-left, and-right}
 use Rattle.summary.proofs.Joins.{joins}
-use Rattle.summary.proofs.Bounds.{FourIn, HeadsIn, Parts, valid-parts, parts-valid}
-use Rattle.summary.specs.declared.Four.{Four}
+use Rattle.summary.proofs.Bounds.{FiveIn, HeadsIn, Parts, valid-parts, parts-valid}
+use Rattle.summary.specs.declared.Five.{Five}
 use Rattle.summary.specs.declared.Summary.{Summary}
 
 -- sums, associative
 plus : (x y z : ℕ) → x + y + z ≡ x + (y + z)
 plus x y z = omega arith
 
-four-assoc : (f g h : Four) → fourSum (fourSum f g) h ≡ fourSum f (fourSum g h)
-four-assoc f g h = rw (plus (f .near) (g .near) (h .near), plus (f .far) (g .far) (h .far), plus (f .neards) (g .neards) (h .neards), plus (f .fards) (g .fards) (h .fards))
+five-assoc : (f g h : Five) → fiveSum (fiveSum f g) h ≡ fiveSum f (fiveSum g h)
+five-assoc f g h = rw (plus (f .near) (g .near) (h .near), plus (f .far) (g .far) (h .far), plus (f .neards) (g .neards) (h .neards), plus (f .fards) (g .fards) (h .fards), plus (f .sum) (g .sum) (h .sum))
 
 heads-assoc : (h k l : List ℕ) → headsSum (headsSum h k) l ≡ headsSum h (headsSum k l)
 heads-assoc h k l =
@@ -46,8 +46,8 @@ same-sum a b c =
       plus (a .length) (b .length) (c .length),
       plus (a .frames) (b .frames) (c .frames),
       heads-assoc (a .heads) (b .heads) (c .heads),
-      four-assoc (a .section) (b .section) (c .section),
-      four-assoc (a .path) (b .path) (c .path),
+      five-assoc (a .section) (b .section) (c .section),
+      five-assoc (a .path) (b .path) (c .path),
     )
 
 -- Following on, as numbers: the lengths and first seconds of three.
@@ -117,8 +117,9 @@ following a b e = e
 
 -- Closed.
 
-four-sums : (f g : Four) (la lb : ℕ) → FourIn f (400000 * la) la → FourIn g (400000 * lb) lb → FourIn (fourSum f g) (400000 * (la + lb)) (la + lb)
-four-sums f g la lb x y =
+five-sums : (f g : Five) (la lb : ℕ) → FiveIn f (400000 * la) (3200000 * la) la → FiveIn g (400000 * lb) (3200000 * lb) lb
+    → FiveIn (fiveSum f g) (400000 * (la + lb)) (3200000 * (la + lb)) (la + lb)
+five-sums f g la lb x y =
     let a : f .near ≤ 400000 * la = x .near in
     let b : g .near ≤ 400000 * lb = y .near in
     let c : f .far ≤ 400000 * la = x .far in
@@ -127,7 +128,9 @@ four-sums f g la lb x y =
     let h : g .neards ≤ lb = y .neards in
     let i : f .fards ≤ la = x .fards in
     let j : g .fards ≤ lb = y .fards in
-    record { near = omega arith; far = omega arith; neards = omega arith; fards = omega arith }
+    let k : f .sum ≤ 3200000 * la = x .sum in
+    let l : g .sum ≤ 3200000 * lb = y .sum in
+    record { near = omega arith; far = omega arith; neards = omega arith; fards = omega arith; sum = omega arith }
 
 -- a head of the sums
 sum-at : (h k : List ℕ) (i : ℕ) → i < 10 → getD (headsSum h k) i 0 ≡ bothAt h k i
@@ -180,8 +183,8 @@ closed a b x y e =
         last = last-sum (a .length) (b .length) (a .first) (b .first) (p .last) (q .last) on;
         frames = omega arith;
         heads = heads-sums (a .heads) (b .heads) (a .length) (b .length) (p .heads) (q .heads);
-        section = four-sums (a .section) (b .section) (a .length) (b .length) (p .section) (q .section);
-        path = four-sums (a .path) (b .path) (a .length) (b .length) (p .path) (q .path);
+        section = five-sums (a .section) (b .section) (a .length) (b .length) (p .section) (q .section);
+        path = five-sums (a .path) (b .path) (a .length) (b .length) (p .path) (q .path);
       });
       ten = refl;
     }
@@ -287,10 +290,12 @@ module _ (a : Summary) (x : Sound a) where
         right (a .section .far),
         right (a .section .neards),
         right (a .section .fards),
+        right (a .section .sum),
         right (a .path .near),
         right (a .path .far),
         right (a .path .neards),
         right (a .path .fards),
+        right (a .path .sum),
       )
 
   before-is : addedOf emptySummary a ≡ a
@@ -315,14 +320,16 @@ module _ (a : Summary) (x : Sound a) where
         none (a .section .far),
         none (a .section .neards),
         none (a .section .fards),
+        none (a .section .sum),
         none (a .path .near),
         none (a .path .far),
         none (a .path .neards),
         none (a .path .fards),
+        none (a .path .sum),
       )
 
 empty-valid : validOf emptySummary ≡ true
-unfolding validOf fourGood headsGood
+unfolding validOf fiveGood headsGood
 empty-valid = refl
 
 place-after : (a : Summary) → Parts a → placeRefusal a emptySummary ≡ 0

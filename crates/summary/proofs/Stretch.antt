@@ -3,15 +3,17 @@ use Prim.Native.Nat.{ℕ, zero, suc, _+_, _*_, _≤_, _<_}
 use mathlib.Core.Path.{_≡_, refl, sym, ap, subst, _∙_}
 use mathlib.Core.Bool.{Bool, true, false, cond, _||_, Bool·beq}
 use mathlib.Core.List.{List, [], _∷_, _++_, map, append-assoc, append-nil}
+use native.Mathlib.Nat.{mul-suc}
 use native.Mathlib.Omega.{arith}
 use lib.Dec.{eqb, leb}
 use lib.ListN.{length, getD, length-append}
 use borrow.Author.Tests.{le-leb, eq-eqb, ne-eqb}
+use Rattle.answer.specs.Bounded.{Bounded}
 use Rattle.summary.specs.Summary.{validOf, emptySummary, addedOf, followsOn, placeRefusal, joinOf, secondOf}
 use Rattle.summary.specs.Laws.{joined}
-use Rattle.summary.specs.Stretch.{total, secondsWith, fourAt, headsAt, firstNumber, summaryOf, SecondIn, Numbered, Neighbours, joinAll, pieced, EveryCut, tenOf, Filed, HeadsWhole, SecondAlone}
+use Rattle.summary.specs.Stretch.{total, secondsWith, fiveAt, headsAt, firstNumber, summaryOf, SecondIn, Numbered, Neighbours, joinAll, pieced, EveryCut, tenOf, Filed, HeadsWhole, SecondAlone, BoundedBoth, SummaryBounded}
 use Rattle.summary.specs.declared.Summary.{Summary}
-use Rattle.summary.proofs.Bounds.{FourIn, HeadsIn, Parts, parts-valid}
+use Rattle.summary.proofs.Bounds.{FiveIn, HeadsIn, Parts, parts-valid}
 use Rattle.summary.proofs.Joins.{joins}
 
 -- sums over two stretches
@@ -26,12 +28,13 @@ with-both i [] ys = let z : secondsWith i ys ≡ 0 + secondsWith i ys = omega ar
 with-both i (s ∷ xs) ys = let e = with-both i xs ys in omega (arith, e)
 
 -- their bounds
-total-low : (n i : ℕ) (ss : List (List ℕ)) → Numbered n ss → total (suc i) ss ≤ 400000 * length ss
+total-low : (i most : ℕ) → ((s : List ℕ) → SecondIn s → getD s i 0 ≤ most) → (n : ℕ) (ss : List (List ℕ)) → Numbered n ss → total i ss ≤ most * length ss
 unfolding total
-total-low n i [] h = omega arith
-total-low n i (s ∷ ss) h =
-    let a : getD s (suc i) 0 ≤ 400000 = h .1 .0 .counts i in
-    let b : total (suc i) ss ≤ 400000 * length ss = total-low (suc n) i ss (h .1 .1) in omega arith
+total-low i most low n [] h = omega arith
+total-low i most low n (s ∷ ss) h =
+    let a : getD s i 0 ≤ most = low s (h .1 .0) in
+    let b : total i ss ≤ most * length ss = total-low i most low (suc n) ss (h .1 .1) in
+    let c : most * suc (length ss) ≡ most * length ss + most = mul-suc most (length ss) in omega (arith, c)
 
 one-low : (b : Bool) → cond b 0 1 ≤ 1
 one-low true = omega arith
@@ -46,23 +49,38 @@ with-low i (s ∷ ss) =
 
 -- the summary of a numbered stretch is one
 module _ (n : ℕ) (ss : List (List ℕ)) (one : 1 ≤ n) (h : Numbered n ss) where
-  section-in : FourIn (fourAt 12 ss) (400000 * length ss) (length ss)
-  section-in = record { near = total-low n 11 ss h; far = total-low n 12 ss h; neards = with-low 14 ss; fards = with-low 15 ss }
+  section-in : FiveIn (fiveAt 12 ss) (400000 * length ss) (3200000 * length ss) (length ss)
+  section-in = record {
+    near = total-low 12 400000 (λ s p. p .section .near) n ss h;
+    far = total-low 13 400000 (λ s p. p .section .far) n ss h;
+    neards = with-low 14 ss;
+    fards = with-low 15 ss;
+    sum = total-low 16 3200000 (λ s p. p .section .sum) n ss h;
+  }
 
-  path-in : FourIn (fourAt 16 ss) (400000 * length ss) (length ss)
-  path-in = record { near = total-low n 15 ss h; far = total-low n 16 ss h; neards = with-low 18 ss; fards = with-low 19 ss }
+  path-in : FiveIn (fiveAt 17 ss) (400000 * length ss) (3200000 * length ss) (length ss)
+  path-in = record {
+    near = total-low 17 400000 (λ s p. p .path .near) n ss h;
+    far = total-low 18 400000 (λ s p. p .path .far) n ss h;
+    neards = with-low 19 ss;
+    fards = with-low 20 ss;
+    sum = total-low 21 3200000 (λ s p. p .path .sum) n ss h;
+  }
+
+  head-low : (i : ℕ) → i < 10 → total (i + 2) ss ≤ 400000 * length ss
+  head-low i k = total-low (i + 2) 400000 (λ s p. p .heads i k) n ss h
 
   heads-in : HeadsIn (headsAt ss) (400000 * length ss)
-  heads-in zero k = total-low n 1 ss h
-  heads-in (suc zero) k = total-low n 2 ss h
-  heads-in (suc (suc zero)) k = total-low n 3 ss h
-  heads-in (suc (suc (suc zero))) k = total-low n 4 ss h
-  heads-in (suc (suc (suc (suc zero)))) k = total-low n 5 ss h
-  heads-in (suc (suc (suc (suc (suc zero))))) k = total-low n 6 ss h
-  heads-in (suc (suc (suc (suc (suc (suc zero)))))) k = total-low n 7 ss h
-  heads-in (suc (suc (suc (suc (suc (suc (suc zero))))))) k = total-low n 8 ss h
-  heads-in (suc (suc (suc (suc (suc (suc (suc (suc zero)))))))) k = total-low n 9 ss h
-  heads-in (suc (suc (suc (suc (suc (suc (suc (suc (suc zero))))))))) k = total-low n 10 ss h
+  heads-in zero k = head-low 0 k
+  heads-in (suc zero) k = head-low 1 k
+  heads-in (suc (suc zero)) k = head-low 2 k
+  heads-in (suc (suc (suc zero))) k = head-low 3 k
+  heads-in (suc (suc (suc (suc zero)))) k = head-low 4 k
+  heads-in (suc (suc (suc (suc (suc zero))))) k = head-low 5 k
+  heads-in (suc (suc (suc (suc (suc (suc zero)))))) k = head-low 6 k
+  heads-in (suc (suc (suc (suc (suc (suc (suc zero))))))) k = head-low 7 k
+  heads-in (suc (suc (suc (suc (suc (suc (suc (suc zero)))))))) k = head-low 8 k
+  heads-in (suc (suc (suc (suc (suc (suc (suc (suc (suc zero))))))))) k = head-low 9 k
   heads-in (suc (suc (suc (suc (suc (suc (suc (suc (suc (suc j)))))))))) k = absurd (omega arith)
 
 -- its first second
@@ -87,7 +105,7 @@ stretch-valid n ss one last long h =
       length = long;
       begins = begins-is n ss one h;
       last = last-is n ss last h;
-      frames = total-low n 0 ss h;
+      frames = total-low 1 400000 (λ s p. p .frames) n ss h;
       heads = heads-in n ss one h;
       section = section-in n ss one h;
       path = path-in n ss one h;
@@ -106,7 +124,7 @@ unfolding addedOf summaryOf
 both-is n xs ys =
     let t : (i : ℕ) → total i (xs ++ ys) ≡ total i xs + total i ys = λ i. total-both i xs ys in
     let w : (i : ℕ) → secondsWith i (xs ++ ys) ≡ secondsWith i xs + secondsWith i ys = λ i. with-both i xs ys in
-    rw (first-both n xs ys, long-both xs ys, t 1, t 2, t 3, t 4, t 5, t 6, t 7, t 8, t 9, t 10, t 11, t 12, t 13, w 14, w 15, t 16, t 17, w 18, w 19)
+    rw (first-both n xs ys, long-both xs ys, t 1, t 2, t 3, t 4, t 5, t 6, t 7, t 8, t 9, t 10, t 11, t 12, t 13, w 14, w 15, t 16, t 17, t 18, w 19, w 20, t 21)
 
 follows-is : (n : ℕ) (xs ys : List (List ℕ)) → Numbered n xs → Numbered (n + length xs) ys → followsOn (summaryOf xs) (summaryOf ys) ≡ true
 unfolding followsOn summaryOf
@@ -192,4 +210,23 @@ pub second-alone : SecondAlone
 unfolding secondOf summaryOf total secondsWith
 second-alone f a b c d =
     let r : (i : ℕ) → getD f i 0 + 0 ≡ getD f i 0 = λ i. omega arith in
-    rw (flag-is (getD f 14 0) a, flag-is (getD f 15 0) b, flag-is (getD f 18 0) c, flag-is (getD f 19 0) d, r 1, r 2, r 3, r 4, r 5, r 6, r 7, r 8, r 9, r 10, r 11, r 12, r 13, r 16, r 17)
+    rw (flag-is (getD f 14 0) a, flag-is (getD f 15 0) b, flag-is (getD f 19 0) c, flag-is (getD f 20 0) d, r 1, r 2, r 3, r 4, r 5, r 6, r 7, r 8, r 9, r 10, r 11, r 12, r 13, r 16, r 17, r 18, r 21)
+
+-- The sum and the far blocks.
+
+both-bounded : (f s g t : ℕ) → Bounded f s → Bounded g t → Bounded (f + g) (s + t)
+both-bounded f s g t a b =
+    let c : f ≤ s = a .0 in
+    let d : s ≤ 8 * f = a .1 in
+    let e : g ≤ t = b .0 in
+    let h : t ≤ 8 * g = b .1 in (omega arith, omega arith)
+
+pub bounds : SummaryBounded
+unfolding summaryOf total
+bounds [] h = record { section = (omega arith, omega arith); path = (omega arith, omega arith) }
+bounds (s ∷ ss) h =
+    let r : BoundedBoth (summaryOf ss) = bounds ss (h .1 .1) in
+    record {
+      section = both-bounded (getD s 13 0) (getD s 16 0) (total 13 ss) (total 16 ss) (h .0) (r .section);
+      path = both-bounded (getD s 18 0) (getD s 21 0) (total 18 ss) (total 21 ss) (h .1 .0) (r .path);
+    }

@@ -1,18 +1,19 @@
 -- The summary of a stretch of reported seconds, by plain sums, and what joining does to two that are neighbours (document 02, K6). A second is its figures, as an S line and the record of
--- otn_mark have them: number, frames, ten heads, then near-end and far-end blocks, near DS and far DS of section and path. Assumes nothing.
-use Prim.Native.Nat.{ℕ, zero, suc, _+_, _≤_}
+-- otn_mark have them: number, frames, ten heads, then near-end and far-end blocks, near DS, far DS and the sum of the far end's violations, of section and path. Assumes nothing.
+use Prim.Native.Nat.{ℕ, zero, suc, _+_, _*_, _≤_, _<_}
 use mathlib.Core.Path.{_≡_}
 use mathlib.Core.Bool.{cond}
 use mathlib.Core.List.{List, [], _∷_, _++_, map}
 use lib.Dec.{eqb}
 use lib.ListN.{length, getD}
+use Rattle.answer.specs.Bounded.{Bounded}
 use Rattle.summary.specs.Summary.{emptySummary, joinOf, secondOf}
 use Rattle.summary.specs.Laws.{joined}
-use Rattle.summary.specs.declared.Four.{Four}
+use Rattle.summary.specs.declared.Five.{Five}
 use Rattle.summary.specs.declared.Summary.{Summary}
 use Rattle.summary.specs.declared.Joined.{Joined}
 
--- "counts and heads added": a figure, by its place, over all seconds
+-- "counts and heads added", and the sums: a figure, by its place, over all seconds
 unfoldable pub total : ℕ → List (List ℕ) → ℕ
 total i [] = 0
 total i (s ∷ ss) = getD s i 0 + total i ss
@@ -22,9 +23,9 @@ unfoldable pub secondsWith : ℕ → List (List ℕ) → ℕ
 secondsWith i [] = 0
 secondsWith i (s ∷ ss) = cond (eqb (getD s i 0) 0) 0 1 + secondsWith i ss
 
--- a layer's four from its place on, and the ten heads
-abbrev pub fourAt : ℕ → List (List ℕ) → Four
-fourAt i ss = record { near = total i ss; far = total (i + 1) ss; neards = secondsWith (i + 2) ss; fards = secondsWith (i + 3) ss }
+-- a layer's five from its place on, and the ten heads
+abbrev pub fiveAt : ℕ → List (List ℕ) → Five
+fiveAt i ss = record { near = total i ss; far = total (i + 1) ss; neards = secondsWith (i + 2) ss; fards = secondsWith (i + 3) ss; sum = total (i + 4) ss }
 
 abbrev pub headsAt : List (List ℕ) → List ℕ
 headsAt ss = total 2 ss ∷ total 3 ss ∷ total 4 ss ∷ total 5 ss ∷ total 6 ss ∷ total 7 ss ∷ total 8 ss ∷ total 9 ss ∷ total 10 ss ∷ total 11 ss ∷ []
@@ -40,14 +41,23 @@ summaryOf ss = record {
   length = length ss;
   frames = total 1 ss;
   heads = headsAt ss;
-  section = fourAt 12 ss;
-  path = fourAt 16 ss;
+  section = fiveAt 12 ss;
+  path = fiveAt 17 ss;
 }
 
--- A second as one is reported: a count or head is 400,000 at most, and the stretch is numbered from n on.
-pub record SecondIn (s : List ℕ) : Type 0 where
-  pub counts : (i : ℕ) → getD s (suc i) 0 ≤ 400000
+-- A second as one is reported: a count or head is 400,000 at most, and a sum of violations 3,200,000. A layer's figures stand from place i on.
+pub record LayerIn (s : List ℕ) (i : ℕ) : Type 0 where
+  pub near : getD s i 0 ≤ 400000
+  pub far : getD s (i + 1) 0 ≤ 400000
+  pub sum : getD s (i + 4) 0 ≤ 3200000
 
+pub record SecondIn (s : List ℕ) : Type 0 where
+  pub frames : getD s 1 0 ≤ 400000
+  pub heads : (i : ℕ) → i < 10 → getD s (i + 2) 0 ≤ 400000
+  pub section : LayerIn s 12
+  pub path : LayerIn s 17
+
+-- a stretch of such seconds, numbered from n on
 abbrev pub Numbered : ℕ → List (List ℕ) → Type 0
 Numbered n [] = Unit {0}
 Numbered n (s ∷ ss) = (getD s 0 0 ≡ n) × (SecondIn s × Numbered (suc n) ss)
@@ -83,4 +93,17 @@ HeadsWhole = (ss : List (List ℕ)) → Filed ss → tenOf (λ (i : ℕ). getD (
 
 -- a second whose DS are 0 or 1, as one is reported, is its own stretch
 abbrev pub SecondAlone : Type 0
-SecondAlone = (f : List ℕ) → getD f 14 0 ≤ 1 → getD f 15 0 ≤ 1 → getD f 18 0 ≤ 1 → getD f 19 0 ≤ 1 → secondOf f ≡ summaryOf (f ∷ [])
+SecondAlone = (f : List ℕ) → getD f 14 0 ≤ 1 → getD f 15 0 ≤ 1 → getD f 19 0 ≤ 1 → getD f 20 0 ≤ 1 → secondOf f ≡ summaryOf (f ∷ [])
+
+-- in the section and in the path of each second
+abbrev pub EachBounded : List (List ℕ) → Type 0
+EachBounded [] = Unit {0}
+EachBounded (s ∷ ss) = Bounded (getD s 13 0) (getD s 16 0) × (Bounded (getD s 18 0) (getD s 21 0) × EachBounded ss)
+
+-- and so in the section and in the path of their summary
+pub record BoundedBoth (s : Summary) : Type 0 where
+  pub section : Bounded (s .section .far) (s .section .sum)
+  pub path : Bounded (s .path .far) (s .path .sum)
+
+abbrev pub SummaryBounded : Type 0
+SummaryBounded = (ss : List (List ℕ)) → EachBounded ss → BoundedBoth (summaryOf ss)

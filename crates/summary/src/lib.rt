@@ -1,18 +1,19 @@
-// A stretch of reported seconds in one record: counts and heads added up, DS as seconds with DS; and two stretches joined.
+// A stretch of reported seconds in one record: counts, heads and sums added up, DS as seconds with DS; and two stretches joined.
 use answer::checked;
 ghost use mathlib.Core.Path.{_≡_};
 ghost use mathlib.Core.Bool.{true, cond};
 ghost use Prim.Native.Nat.{_+_, _≤_, _<_};
 ghost use lib.Dec.{eqb};
 ghost use lib.ListN.{getD};
-ghost use Rattle.summary.specs.Summary.{fourGood, headsGood, validOf, FourLow, HeadsLow, fourSum, headsSum, addedOf, placeRefusal, emptySummary, refusedWith, joinOf, fourIn, headsIn, secondOf, numbersOf, summaryBy};
+ghost use Rattle.summary.specs.Summary.{fiveGood, headsGood, validOf, FiveLow, HeadsLow, fiveSum, headsSum, addedOf, placeRefusal, emptySummary, refusedWith, joinOf, fiveIn, headsIn, secondOf, numbersOf, summaryBy};
 
-// A layer's four of a stretch: near-end and far-end errored blocks, seconds with near DS and seconds with far DS.
-pub struct Four {
+// A layer's five of a stretch: near-end and far-end errored blocks, seconds with near DS and seconds with far DS, and the sum of the far end's violations.
+pub struct Five {
     pub near: u64,
     pub far: u64,
     pub neards: u64,
     pub fards: u64,
+    pub sum: u64,
 }
 
 // `first` is the number of its first second, 0 where it is empty; `length` is how many seconds it has.
@@ -21,8 +22,8 @@ pub struct Summary {
     pub length: u64,
     pub frames: u64,
     pub heads: [u64; 10],
-    pub section: Four,
-    pub path: Four,
+    pub section: Five,
+    pub path: Five,
 }
 
 // `refusal` is 0 where the two are joined, and then `summary` is of both.
@@ -31,11 +32,15 @@ pub struct Joined {
     pub summary: Summary,
 }
 
-// A layer's four within their bounds.
-fn four_good(f: Four, most: u64, length: u64) -> bool
-    ensures { λ r. ⌜ r ≡ fourGood f most length ⌝ }
+// A layer's five within their bounds.
+fn five_good(f: Five, most: u64, sums: u64, length: u64) -> bool
+    ensures { λ r. ⌜ r ≡ fiveGood f most sums length ⌝ }
 {
-    (f.near <= most) & (f.far <= most) & (f.neards <= length) & (f.fards <= length)
+    (f.near <= most)
+        & (f.far <= most)
+        & (f.neards <= length)
+        & (f.fards <= length)
+        & (f.sum <= sums)
 }
 
 fn heads_good(h: [u64; 10], most: u64) -> bool
@@ -59,12 +64,13 @@ pub fn valid(s: Summary) -> bool
 {
     if s.length <= 86400 {
         let most = 400000 * s.length;
+        let sums = 3200000 * s.length;
         let heads = s.heads;
         let section = s.section;
         let path = s.path;
         let h = heads_good(heads, most);
-        let f = four_good(section, most, s.length);
-        let g = four_good(path, most, s.length);
+        let f = five_good(section, most, sums, s.length);
+        let g = five_good(path, most, sums, s.length);
         let begins = (s.first == 0) == (s.length == 0);
         return begins & (s.first <= 4294967296 - s.length) & (s.frames <= most) & h & f & g;
     }
@@ -80,17 +86,19 @@ pub fn empty() -> Summary
         length: 0,
         frames: 0,
         heads: [0; 10],
-        section: Four {
+        section: Five {
             near: 0,
             far: 0,
             neards: 0,
             fards: 0,
+            sum: 0,
         },
-        path: Four {
+        path: Five {
             near: 0,
             far: 0,
             neards: 0,
             fards: 0,
+            sum: 0,
         },
     }
 }
@@ -107,27 +115,29 @@ fn refused(refusal: u8) -> Joined
 
 // A sum of two numbers of summaries: it stays far below 64 bits.
 fn sum(x: u64, y: u64) -> u64
-    requires { ⌜ x ≤ 34560000000 ⌝ }
-    requires { ⌜ y ≤ 34560000000 ⌝ }
+    requires { ⌜ x ≤ 276480000000 ⌝ }
+    requires { ⌜ y ≤ 276480000000 ⌝ }
     ensures { λ r. ⌜ r ≡ x + y ⌝ }
 {
     x + y
 }
 
-fn four_sum(f: Four, g: Four) -> Four
-    requires { ⌜ FourLow f ⌝ }
-    requires { ⌜ FourLow g ⌝ }
-    ensures { λ r. ⌜ r ≡ fourSum f g ⌝ }
+fn five_sum(f: Five, g: Five) -> Five
+    requires { ⌜ FiveLow f ⌝ }
+    requires { ⌜ FiveLow g ⌝ }
+    ensures { λ r. ⌜ r ≡ fiveSum f g ⌝ }
 {
     let near = sum(f.near, g.near);
     let far = sum(f.far, g.far);
     let neards = sum(f.neards, g.neards);
     let fards = sum(f.fards, g.fards);
-    Four {
+    let sums = sum(f.sum, g.sum);
+    Five {
         near: near,
         far: far,
         neards: neards,
         fards: fards,
+        sum: sums,
     }
 }
 
@@ -185,8 +195,8 @@ fn added(a: Summary, b: Summary) -> Summary
     let length = sum(a.length, b.length);
     let frames = sum(a.frames, b.frames);
     let heads = heads_sum(ah, bh);
-    let section = four_sum(asm, bsm);
-    let path = four_sum(apm, bpm);
+    let section = five_sum(asm, bsm);
+    let path = five_sum(apm, bpm);
     Summary {
         first: first,
         length: length,
@@ -234,20 +244,21 @@ fn wide(x: u32) -> u64
     x as u64
 }
 
-// A layer's four from its place in a second's figures.
-fn four_in(f: [u32; 20], at: usize) -> Four
-    requires { ⌜ at ≤ 16 ⌝ }
-    ensures { λ r. ⌜ r ≡ fourIn f at ⌝ }
+// A layer's five from its place in a second's figures.
+fn five_in(f: [u32; 22], at: usize) -> Five
+    requires { ⌜ at ≤ 17 ⌝ }
+    ensures { λ r. ⌜ r ≡ fiveIn f at ⌝ }
 {
-    Four {
+    Five {
         near: wide(f[at]),
         far: wide(f[at + 1]),
         neards: wide(f[at + 2]),
         fards: wide(f[at + 3]),
+        sum: wide(f[at + 4]),
     }
 }
 
-fn heads_in(f: [u32; 20]) -> [u64; 10]
+fn heads_in(f: [u32; 22]) -> [u64; 10]
     ensures { λ r. ⌜ r ≡ headsIn f 2 ⌝ }
 {
     [
@@ -264,13 +275,13 @@ fn heads_in(f: [u32; 20]) -> [u64; 10]
     ]
 }
 
-// One second by its twenty figures, as a stretch of one.
-pub fn second_of(f: [u32; 20]) -> Summary
+// One second by its 22 figures, as a stretch of one.
+pub fn second_of(f: [u32; 22]) -> Summary
     ensures { λ r. ⌜ r ≡ secondOf f ⌝ }
 {
     let heads = heads_in(f);
-    let section = four_in(f, 12);
-    let path = four_in(f, 16);
+    let section = five_in(f, 12);
+    let path = five_in(f, 17);
     let first = wide(f[0]);
     let frames = wide(f[1]);
     Summary {
@@ -283,8 +294,8 @@ pub fn second_of(f: [u32; 20]) -> Summary
     }
 }
 
-// The twenty-one numbers of a summary, in their order.
-pub fn numbers_of(s: Summary) -> [u64; 21]
+// The 23 numbers of a summary, in their order.
+pub fn numbers_of(s: Summary) -> [u64; 23]
     ensures { λ r. ⌜ r ≡ numbersOf s ⌝ }
 {
     [
@@ -305,15 +316,17 @@ pub fn numbers_of(s: Summary) -> [u64; 21]
         s.section.far,
         s.section.neards,
         s.section.fards,
+        s.section.sum,
         s.path.near,
         s.path.far,
         s.path.neards,
         s.path.fards,
+        s.path.sum,
     ]
 }
 
-// The summary of twenty-one numbers.
-pub fn summary_by(v: [u64; 21]) -> Summary
+// The summary of 23 numbers.
+pub fn summary_by(v: [u64; 23]) -> Summary
     ensures { λ r. ⌜ r ≡ summaryBy v ⌝ }
 {
     Summary {
@@ -332,17 +345,19 @@ pub fn summary_by(v: [u64; 21]) -> Summary
             v[11],
             v[12],
         ],
-        section: Four {
+        section: Five {
             near: v[13],
             far: v[14],
             neards: v[15],
             fards: v[16],
+            sum: v[17],
         },
-        path: Four {
-            near: v[17],
-            far: v[18],
-            neards: v[19],
-            fards: v[20],
+        path: Five {
+            near: v[18],
+            far: v[19],
+            neards: v[20],
+            fards: v[21],
+            sum: v[22],
         },
     }
 }

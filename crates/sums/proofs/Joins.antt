@@ -31,7 +31,7 @@ module _ (a b s : Summary) (e : joinOf a b ≡ joined s) where
   module _ (f : SameSummary a) (g : SameSummary b) (out : List ℕ) where
     refusal : joinedRefusal (summaryBytes a) (summaryBytes b) ≡ 0
     unfolding joinedRefusal joinRefusal
-    refusal = rw (eq-eqb (length (summaryBytes a)) 168 (f .long), eq-eqb (length (summaryBytes b)) 168 (g .long), f .back, g .back) not-refused
+    refusal = rw (eq-eqb (length (summaryBytes a)) 184 (f .long), eq-eqb (length (summaryBytes b)) 184 (g .long), f .back, g .back) not-refused
 
     pub call : JoinCall (summaryBytes a) (summaryBytes b) out 0 (poured out (summaryBytes s))
     unfolding joinedOut

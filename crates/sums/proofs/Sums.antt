@@ -40,14 +40,14 @@ unfolding poured
 poured-long d v = over-length d 0 (take (length d) v) (omega (arith, length-take (length d) v))
 
 -- the summary of a record that has a second's figures, where these are a stretch of one
-module _ (figures r out : List ℕ) (s : Summary) (w : RecordedSecond figures r) (long : length r ≡ 176) (is : secondOf figures ≡ s) (sound : Sound s) where
-  abbrev twenty : List ℕ
-  twenty = wordsIn 20 0 r
+module _ (figures r out : List ℕ) (s : Summary) (w : RecordedSecond figures r) (long : length r ≡ 208) (is : secondOf figures ≡ s) (sound : Sound s) where
+  abbrev first : List ℕ
+  first = wordsIn 22 0 r
 
-  word : (i : ℕ) → i < 20 → getD twenty i 0 ≡ getD figures i 0
-  word i h = ap (λ (l : List ℕ). getD l i 0) (words-room 20 0 r (omega (arith, long))) ∙ word-of 20 r i h ∙ w .words i (omega (arith, h))
+  word : (i : ℕ) → i < 22 → getD first i 0 ≡ getD figures i 0
+  word i h = ap (λ (l : List ℕ). getD l i 0) (words-room 22 0 r (omega (arith, long))) ∙ word-of 22 r i h ∙ w .words i (omega (arith, h))
 
-  same : secondOf twenty ≡ secondOf figures
+  same : secondOf first ≡ secondOf figures
   unfolding secondOf
   same =
       rw (
@@ -71,14 +71,16 @@ module _ (figures r out : List ℕ) (s : Summary) (w : RecordedSecond figures r)
         word 17 (lit< tt),
         word 18 (lit< tt),
         word 19 (lit< tt),
+        word 20 (lit< tt),
+        word 21 (lit< tt),
       )
 
-  made : secondOf twenty ≡ s
+  made : secondOf first ≡ s
   made = same ∙ is
 
   recorded-sum : SummaryCall r out 0 (poured out (summaryBytes s))
   recorded-sum =
-      summarized r out twenty (secondOf twenty) (validOf (secondOf twenty)) (omega (arith, long)) refl refl refl (poured out (summaryBytes s)) (ap validOf made ∙ sound .valid)
+      summarized r out first (secondOf first) (validOf (secondOf first)) (omega (arith, long)) refl refl refl (poured out (summaryBytes s)) (ap validOf made ∙ sound .valid)
       (ap (λ (x : Summary). poured out (summaryBytes x)) (sym made))
 
 -- two neighbouring stretches
@@ -107,7 +109,7 @@ module _ (b : List ℕ) (c : Course) (on : FromFresh b c) (page : ByPage b c) (d
     unfolding eventsAmong
     count = marks-append (c .calls) (marks ∷ [])
 
-    mark-sum : (out : List ℕ) → length r ≡ 176 → SummaryCall (actFills b (otn-mark r)) out 0 (poured out (stretchBytes (c .settings) (withMark c) (closedBy c) 1))
+    mark-sum : (out : List ℕ) → length r ≡ 208 → SummaryCall (actFills b (otn-mark r)) out 0 (poured out (stretchBytes (c .settings) (withMark c) (closedBy c) 1))
     mark-sum out k =
         let f : actFills b (otn-mark r) ≡ poured r (flat (nextReported c)) = page .records r ∙ rw (told .0, told .1) in
         let low : 1 ≤ closedBy c = some-closed (told .1) in
@@ -122,7 +124,7 @@ module _ (b : List ℕ) (c : Course) (on : FromFresh b c) (page : ByPage b c) (d
         let x : stretchBytes (c .settings) (withMark c) i n ≡ stretchBytes (c .settings) (c .calls) i n = ap summaryBytes (now .stays (marks ∷ []) i n low (omega (arith, is))) in
         rw (← x, ← is) (neighbours-sum (c .settings) (withMark c) then i n 1 out low (omega (arith, is, count)) long)
 
-  pending-sum : (r out : List ℕ) → actAnswer b (otn-pending r) ≡ 256 → length r ≡ 176
+  pending-sum : (r out : List ℕ) → actAnswer b (otn-pending r) ≡ 256 → length r ≡ 208
       → SummaryCall (actFills b (otn-pending r)) out 0 (poured out (stretchBytes (c .settings) (c .calls) (closedBy c) 1))
   pending-sum r out e k =
       let m : eqb (closedBy c) 0 ≡ false = told-pending c (sym (page .pendings r) ∙ e) in

@@ -23,10 +23,10 @@ withMark c = c .calls ++ (marks ∷ [])
 -- What holds of the next mark, of the pending second and of two summaries, b being the supervisor's bytes after uses whose course is c.
 pub record ByteSums (b : List ℕ) (c : Course) : Type 0 where
   -- otn_summary takes the record of the second that the next mark reports, and makes of it the bytes of that second as a stretch of one
-  pub recorded : (r out : List ℕ) → actAnswer b (otn-mark r) ≡ 256 → length r ≡ 176
+  pub recorded : (r out : List ℕ) → actAnswer b (otn-mark r) ≡ 256 → length r ≡ 208
       → SummaryCall (actFills b (otn-mark r)) out 0 (poured out (stretchBytes (c .settings) (withMark c) (closedBy c) 1))
   -- and the record of the pending second
-  pub pending : (r out : List ℕ) → actAnswer b (otn-pending r) ≡ 256 → length r ≡ 176
+  pub pending : (r out : List ℕ) → actAnswer b (otn-pending r) ≡ 256 → length r ≡ 208
       → SummaryCall (actFills b (otn-pending r)) out 0 (poured out (stretchBytes (c .settings) (c .calls) (closedBy c) 1))
   -- otn_join takes the bytes of two neighbouring stretches, either of which may be empty, and makes of them those of both
   pub joined : (i n m : ℕ) (out : List ℕ) → 1 ≤ i → i + (n + m) ≤ closedBy c + 1 → n + m ≤ 86400

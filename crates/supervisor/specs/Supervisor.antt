@@ -95,7 +95,7 @@ unfoldable pub markOf : Supervisor → Marked
 markOf s =
     cond (ltb (s .seconds) 4294967295)
     (record { refusal = 0; figures = figuresOf (s .seconds + 1) (closedOf (s .second)); supervisor = nextSecond s })
-    (record { refusal = 4; figures = replicate 20 0; supervisor = s })
+    (record { refusal = 4; figures = replicate 22 0; supervisor = s })
 
 -- "layer .. 0 (section) or 1 (path)"
 abbrev pub layerAt : Supervisor → ℕ → Layer

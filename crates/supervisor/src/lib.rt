@@ -35,7 +35,7 @@ pub struct Stepped {
 
 pub struct Marked {
     pub refusal: u8,
-    pub figures: [u32; 20],
+    pub figures: [u32; 22],
     pub supervisor: Supervisor,
 }
 
@@ -150,7 +150,7 @@ pub fn mark(s: Supervisor) -> Marked
     }
     Marked {
         refusal: 4,
-        figures: [0; 20],
+        figures: [0; 22],
         supervisor: s,
     }
 }

@@ -87,11 +87,11 @@ pub mark-late : (κs : Lfts 0) (a : Dens κs mark-kinds.ps) (x : TandemMarked) (
 unfolding markedOf markOf
 mark-late κs a x s last zero e = let h : _≡_ {A = ℕ} 4 0 = simp (e, last) at zero in omega arith
 
--- no level provisioned: the line has twenty figures
+-- no level provisioned: the line has twenty-two figures
 pub all-listed : (κs : Lfts 0) (a : Dens κs listed-figures-kinds.ps) (x : Listed) (s : AtExit (endedOf 0 listed-figures-kinds.ps listed-figures-kinds.r) κs)
-    → a .0 ≡ replicate 6 blankLevel → a .1 .0 ≡ replicate 44 0 → x .n ≡ 44 → listed-figures-reads.Post κs a x s → ⊥
+    → a .0 ≡ replicate 6 blankLevel → a .1 .0 ≡ replicate 52 0 → x .n ≡ 52 → listed-figures-reads.Post κs a x s → ⊥
 unfolding givenGroups
-all-listed κs a x s none zeros all e = let h : _≡_ {A = ℕ} 20 44 = simp (e, none, zeros) at all in omega arith
+all-listed κs a x s none zeros all e = let h : _≡_ {A = ℕ} 22 52 = simp (e, none, zeros) at all in omega arith
 
 -- there is no level 0, and no level 7
 pub level-zero : (κs : Lfts 0) (a : Dens κs level-report-kinds.ps) (x : LevelReport) (s : AtExit (endedOf 0 level-report-kinds.ps level-report-kinds.r) κs)

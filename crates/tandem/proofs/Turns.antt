@@ -16,7 +16,7 @@ use Rattle.codec.proofs.Overs.{over-all}
 use Rattle.overhead.specs.declared.Field.{Field}
 use Rattle.overhead.specs.Overhead.{levelField}
 use Rattle.alignment.specs.declared.Multi.{Multi}
-use Rattle.tandem.specs.Levels.{steppedLevel, markedLevel, frameRule, fourOf, levelFigures, givenGroups, listedOf}
+use Rattle.tandem.specs.Levels.{steppedLevel, markedLevel, frameRule, fiveOf, levelFigures, givenGroups, listedOf}
 use Rattle.tandem.specs.Tandem.{nothing, levelShown}
 use Rattle.tandem.specs.declared.Level.{Level}
 
@@ -77,76 +77,76 @@ frame-turn l ssf m o counts i f r ef er =
     let b : i + 1 - 1 ≡ i = omega arith in
     rw (a, b, ← ef) er
 
--- a level has four figures
-pub four-long : (l : Level) → length (fourOf l) ≡ 4
-unfolding fourOf
-four-long l = by-cond (λ (x : List ℕ). length x ≡ 4) (l .given) (λ _. refl) (λ _. refl)
+-- a level has five figures
+pub five-long : (l : Level) → length (fiveOf l) ≡ 5
+unfolding fiveOf
+five-long l = by-cond (λ (x : List ℕ). length x ≡ 5) (l .given) (λ _. refl) (λ _. refl)
 
-pub figures-long : (ls : List Level) → length (levelFigures ls) ≡ 4 * length ls
+pub figures-long : (ls : List Level) → length (levelFigures ls) ≡ 5 * length ls
 unfolding levelFigures
 figures-long [] = refl
-figures-long (l ∷ ls) = simp (length-append, four-long l, figures-long ls) (omega arith)
+figures-long (l ∷ ls) = simp (length-append, five-long l, figures-long ls) (omega arith)
 
 -- the figures of one level more
-figures-append : (ls : List Level) (l : Level) → levelFigures (ls ++ (l ∷ [])) ≡ levelFigures ls ++ fourOf l
+figures-append : (ls : List Level) (l : Level) → levelFigures (ls ++ (l ∷ [])) ≡ levelFigures ls ++ fiveOf l
 unfolding levelFigures
-figures-append [] l = append-nil (fourOf l)
-figures-append (x ∷ ls) l = ap (λ (v : List ℕ). fourOf x ++ v) (figures-append ls l) ∙ sym (append-assoc (fourOf x) (levelFigures ls) (fourOf l))
+figures-append [] l = append-nil (fiveOf l)
+figures-append (x ∷ ls) l = ap (λ (v : List ℕ). fiveOf x ++ v) (figures-append ls l) ∙ sym (append-assoc (fiveOf x) (levelFigures ls) (fiveOf l))
 
--- a turn of the loop that writes a level's four behind those of the levels before it
-pub figures-turn : (ls : List Level) (i : ℕ) (d : Level) (start out four after : List ℕ) → i < length ls → 20 ≤ length start
-    → out ≡ over start 20 (levelFigures (take i ls)) → four ≡ fourOf (getD ls i d) → after ≡ over out (20 + 4 * i) four
-    → after ≡ over start 20 (levelFigures (take (i + 1) ls))
-figures-turn ls i d start out four after h room eo ef ea =
+-- a turn of the loop that writes a level's five behind those of the levels before it
+pub figures-turn : (ls : List Level) (i : ℕ) (d : Level) (start out five after : List ℕ) → i < length ls → 22 ≤ length start
+    → out ≡ over start 22 (levelFigures (take i ls)) → five ≡ fiveOf (getD ls i d) → after ≡ over out (22 + 5 * i) five
+    → after ≡ over start 22 (levelFigures (take (i + 1) ls))
+figures-turn ls i d start out five after h room eo ef ea =
     let v : List ℕ = levelFigures (take i ls) in
-    let w : levelFigures (take (i + 1) ls) ≡ v ++ fourOf (getD ls i d) = rw (add-one, take-suc ls i d) (figures-append (take i ls) (getD ls i d)) in
+    let w : levelFigures (take (i + 1) ls) ≡ v ++ fiveOf (getD ls i d) = rw (add-one, take-suc ls i d) (figures-append (take i ls) (getD ls i d)) in
     let m : length (take i ls) ≡ i = length-take-le i ls (omega arith) in
-    let n : 20 + 4 * i ≡ 20 + length v = rw (figures-long (take i ls), m) in
-    rw (ea, eo, ef, w) (over-over start 20 (20 + 4 * i) v (fourOf (getD ls i d)) room n)
+    let n : 22 + 5 * i ≡ 22 + length v = rw (figures-long (take i ls), m) in
+    rw (ea, eo, ef, w) (over-over start 22 (22 + 5 * i) v (fiveOf (getD ls i d)) room n)
 
--- the loop's end: the twenty, then the levels'
-pub figures-whole : (zeros base : List ℕ) (ls : List Level) → length zeros ≡ 44 → length base ≡ 20 → length ls ≡ 6
-    → over (over zeros 0 base) 20 (levelFigures ls) ≡ base ++ levelFigures ls
+-- the loop's end: the twenty-two, then the levels'
+pub figures-whole : (zeros base : List ℕ) (ls : List Level) → length zeros ≡ 52 → length base ≡ 22 → length ls ≡ 6
+    → over (over zeros 0 base) 22 (levelFigures ls) ≡ base ++ levelFigures ls
 figures-whole zeros base ls z b l =
-    let n : 20 ≡ 0 + length base = omega arith in
+    let n : 22 ≡ 0 + length base = omega arith in
     let m : length (base ++ levelFigures ls) ≡ length zeros = rw (length-append base (levelFigures ls), figures-long ls, b, l, z) in
-    over-over zeros 0 20 base (levelFigures ls) (omega arith) n ∙ over-all zeros (base ++ levelFigures ls) m
+    over-over zeros 0 22 base (levelFigures ls) (omega arith) n ∙ over-all zeros (base ++ levelFigures ls) m
 
 take-low : (n : ℕ) (l : List ℕ) → length (take n l) ≤ n
 take-low n l = simp length-take (omega arith)
 
 -- the groups of one level more
 groups-append : (ls : List Level) (l : Level) (figures : List ℕ)
-    → givenGroups (ls ++ (l ∷ [])) figures ≡ givenGroups ls figures ++ cond (l .given) (take 4 (drop (4 * length ls) figures)) []
+    → givenGroups (ls ++ (l ∷ [])) figures ≡ givenGroups ls figures ++ cond (l .given) (take 5 (drop (5 * length ls) figures)) []
 unfolding givenGroups
 groups-append [] l figures = append-nil _
 groups-append (x ∷ ls) l figures =
-    let g : List ℕ = cond (x .given) (take 4 figures) [] in
-    let e : 4 + 4 * length ls ≡ 4 * length (x ∷ ls) = omega arith in
-    let h = rw (drop-drop (4 * length ls) 4 figures, e) at (groups-append ls l (drop 4 figures)) in
+    let g : List ℕ = cond (x .given) (take 5 figures) [] in
+    let e : 5 + 5 * length ls ≡ 5 * length (x ∷ ls) = omega arith in
+    let h = rw (drop-drop (5 * length ls) 5 figures, e) at (groups-append ls l (drop 5 figures)) in
     ap (λ (v : List ℕ). g ++ v) h ∙ sym (append-assoc g _ _)
 
 -- the figures of an S line when level i + 1 is listed too: its group behind the others
 listed-more : (ls : List Level) (figures : List ℕ) (i : ℕ) (d : Level) → i < length ls
-    → listedOf (take (i + 1) ls) figures ≡ listedOf (take i ls) figures ++ cond (getD ls i d .given) (take 4 (drop (20 + 4 * i) figures)) []
+    → listedOf (take (i + 1) ls) figures ≡ listedOf (take i ls) figures ++ cond (getD ls i d .given) (take 5 (drop (22 + 5 * i) figures)) []
 listed-more ls figures i d h =
     let m : length (take i ls) ≡ i = length-take-le i ls (omega arith) in
-    let g = rw (m, drop-drop (4 * i) 20 figures) at (groups-append (take i ls) (getD ls i d) (drop 20 figures)) in
-    rw (add-one, take-suc ls i d, g) (sym (append-assoc (take 20 figures) _ _))
+    let g = rw (m, drop-drop (5 * i) 22 figures) at (groups-append (take i ls) (getD ls i d) (drop 22 figures)) in
+    rw (add-one, take-suc ls i d, g) (sym (append-assoc (take 22 figures) _ _))
 
--- a turn of the loop that writes a level's group behind those of the levels before it; a group has no more than four
-pub listed-turn : (ls : List Level) (figures : List ℕ) (i w : ℕ) (d : Level) (start out after : List ℕ) (n m : ℕ) → i < length ls → w ≡ 4 → n ≤ 20 + 4 * i
+-- a turn of the loop that writes a level's group behind those of the levels before it; a group has no more than five
+pub listed-turn : (ls : List Level) (figures : List ℕ) (i w : ℕ) (d : Level) (start out after : List ℕ) (n m : ℕ) → i < length ls → w ≡ 5 → n ≤ 22 + 5 * i
     → n ≡ length (listedOf (take i ls) figures) → out ≡ over start 0 (listedOf (take i ls) figures)
-    → after ≡ over out n (cond (getD ls i d .given) (take w (drop (20 + 4 * i) figures)) [])
-    → m ≡ n + length (cond (getD ls i d .given) (take w (drop (20 + 4 * i) figures)) [])
-    → (m ≤ 20 + 4 * (i + 1)) × (m ≡ length (listedOf (take (i + 1) ls) figures)) × (after ≡ over start 0 (listedOf (take (i + 1) ls) figures))
-listed-turn ls figures i w d start out after n m h four low en eo ea em =
+    → after ≡ over out n (cond (getD ls i d .given) (take w (drop (22 + 5 * i) figures)) [])
+    → m ≡ n + length (cond (getD ls i d .given) (take w (drop (22 + 5 * i) figures)) [])
+    → (m ≤ 22 + 5 * (i + 1)) × (m ≡ length (listedOf (take (i + 1) ls) figures)) × (after ≡ over start 0 (listedOf (take (i + 1) ls) figures))
+listed-turn ls figures i w d start out after n m h five low en eo ea em =
     let v : List ℕ = listedOf (take i ls) figures in
-    let f : List ℕ = take 4 (drop (20 + 4 * i) figures) in
+    let f : List ℕ = take 5 (drop (22 + 5 * i) figures) in
     let g : List ℕ = cond (getD ls i d .given) f [] in
     let e = listed-more ls figures i d h in
     let z : n ≡ 0 + length v = omega arith in
-    let k : length g ≤ 4 = by-cond (λ (x : List ℕ). length x ≤ 4) (getD ls i d .given) (λ _. take-low 4 (drop (20 + 4 * i) figures)) (λ _. omega arith) in
-    let p : m ≡ n + length g = rw four at em in
-    let q : after ≡ over out n g = rw four at ea in
+    let k : length g ≤ 5 = by-cond (λ (x : List ℕ). length x ≤ 5) (getD ls i d .given) (λ _. take-low 5 (drop (22 + 5 * i) figures)) (λ _. omega arith) in
+    let p : m ≡ n + length g = rw five at em in
+    let q : after ≡ over out n g = rw five at ea in
     (omega arith, rw (e, length-append v g, ← en) p, rw (e, q, eo) (over-over start 0 n v g (omega arith) z))

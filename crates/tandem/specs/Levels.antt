@@ -40,11 +40,12 @@ markedLevel l =
     (record { given = true; options = l .options; state = levelMarked (l .state) (l .options) (l .second); second = freshLevelSecond })
     l
 
--- "the four figures of every provisioned level": near-end and far-end blocks, near and far DS, after the level's own discard; else zeros
-unfoldable pub fourOf : Level → List ℕ
-fourOf l =
+-- "the four figures of every provisioned level": near-end and far-end blocks, near and far DS, after the level's own discard; and "The sum comes last in each
+-- layer's group of S fields" (document 02, K7), so they are five; else zeros
+unfoldable pub fiveOf : Level → List ℕ
+fiveOf l =
     let b : Blocks = levelClosed (l .second) in
-    cond (l .given) (b .near .0 ∷ b .far .0 ∷ flag (b .neards) ∷ flag (b .fards) ∷ []) (replicate 4 0)
+    cond (l .given) (b .near .0 ∷ b .far .0 ∷ flag (b .neards) ∷ flag (b .fards) ∷ b .sum .0 ∷ []) (replicate 5 0)
 
 -- "Frames with six more counts at the end, levels 1 to 6": level n has the n-th
 abbrev pub countAt : List ℕ → ℕ → ℕ
@@ -67,20 +68,21 @@ markedLevels ls = eachFrom markRule 1 ls
 -- "lowest level first"
 unfoldable pub levelFigures : List Level → List ℕ
 levelFigures [] = []
-levelFigures (l ∷ ls) = fourOf l ++ levelFigures ls
+levelFigures (l ∷ ls) = fiveOf l ++ levelFigures ls
 
--- "Each S line gains the four figures of every provisioned level, lowest level first": of figures, four to a level, those of the provisioned ones
+-- "Each S line gains the four figures of every provisioned level, lowest level first" (K1), with the sum five (K7): of figures, five to a level, those of the
+-- provisioned ones
 unfoldable pub givenGroups : List Level → List ℕ → List ℕ
 givenGroups [] figures = []
-givenGroups (l ∷ ls) figures = cond (l .given) (take 4 figures) [] ++ givenGroups ls (drop 4 figures)
+givenGroups (l ∷ ls) figures = cond (l .given) (take 5 figures) [] ++ givenGroups ls (drop 5 figures)
 
--- the figures of an S line, of the 44 of a mark: the twenty as they were, then those groups
+-- the figures of an S line, of the 52 of a mark: the twenty-two of line, section and path, then those groups
 abbrev pub listedOf : List Level → List ℕ → List ℕ
-listedOf ls figures = take 20 figures ++ givenGroups ls (drop 20 figures)
+listedOf ls figures = take 22 figures ++ givenGroups ls (drop 22 figures)
 
--- figures in the room of 44, zeros behind them, and how many they are
+-- figures in the room of 52, zeros behind them, and how many they are
 abbrev pub listedIn : List ℕ → Listed
-listedIn v = record { figures = over (replicate 44 0) 0 v; n = length v }
+listedIn v = record { figures = over (replicate 52 0) 0 v; n = length v }
 
 -- "level not 1 to 6"
 abbrev pub isLevel : ℕ → Bool

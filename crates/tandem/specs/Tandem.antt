@@ -125,7 +125,7 @@ framedOf t overhead flags sm pm counts =
     })
     (record { refusal = refusal; report = noReport; stands = replicate 6 nothing; tandem = t })
 
--- a mark: the supervisor's own, with its twenty figures, and each level's, with its four
+-- a mark: the supervisor's own, with its twenty-two figures, and each level's, with its five
 unfoldable pub markedOf : Tandem → TandemMarked
 markedOf t =
     let a : Marked = markOf (t .base) in
@@ -135,7 +135,7 @@ markedOf t =
       figures = a .figures ++ levelFigures (t .levels);
       tandem = record { base = a .supervisor; flags = t .flags; levels = markedLevels (t .levels) };
     })
-    (record { refusal = a .refusal; figures = replicate 44 0; tandem = t })
+    (record { refusal = a .refusal; figures = replicate 52 0; tandem = t })
 
 -- the path's SSF as it stands: by what the supervisor holds, and the flags of the last frame
 unfoldable pub ssfNow : Supervisor → ℕ → Bool

@@ -19,7 +19,7 @@ ghost use mathlib.Core.List.{[], _++_};
 ghost use Prim.Native.Nat.{_+_, _≤_};
 ghost use lib.ListN.{length};
 ghost use Rattle.answer.specs.Over.{over};
-ghost use Rattle.tandem.specs.Levels.{givenLevel, blankLevel, steppedLevel, markedLevel, fourOf, framedLevels, markedLevels, levelFigures, listedOf, listedIn, levelAt, freeAt, placedAt, lowTo};
+ghost use Rattle.tandem.specs.Levels.{givenLevel, blankLevel, steppedLevel, markedLevel, fiveOf, framedLevels, markedLevels, levelFigures, listedOf, listedIn, levelAt, freeAt, placedAt, lowTo};
 ghost use Rattle.tandem.specs.Tandem.{freshTandem, begun, requestRefusal, giveRefusal, recordRefusal, withLevel, giveOf, recordedOf, frameRefusal, framedOf, markedOf, ssfNow, nothing, levelShown, shownLevels, levelReport, levelTraced};
 
 // A level: whether it is provisioned, and what is kept of it.
@@ -51,16 +51,16 @@ pub struct TandemStepped {
     pub tandem: Tandem,
 }
 
-// The twenty figures of line, section and path, then four for each level.
+// The twenty-two figures of line, section and path, then five for each level.
 pub struct TandemMarked {
     pub refusal: u8,
-    pub figures: [u32; 44],
+    pub figures: [u32; 52],
     pub tandem: Tandem,
 }
 
-// The figures of an S line: the first n of 44, zeros behind them.
+// The figures of an S line: the first n of 52, zeros behind them.
 pub struct Listed {
-    pub figures: [u32; 44],
+    pub figures: [u32; 52],
     pub n: usize,
 }
 
@@ -423,16 +423,16 @@ fn levels_mark(ls: [Level; 6]) -> [Level; 6]
     levels
 }
 
-// The four figures of a level, zeros where it is not provisioned.
-fn four_of(l: Level) -> [u32; 4]
-    ensures { λ r. ⌜ r ≡ fourOf l ⌝ }
+// The five figures of a level, zeros where it is not provisioned.
+fn five_of(l: Level) -> [u32; 5]
+    ensures { λ r. ⌜ r ≡ fiveOf l ⌝ }
 {
     if l.given {
         let c = l.second;
         let b = level::level_closed(c);
-        return [b.near.0, b.far.0, b.neards as u32, b.fards as u32];
+        return [b.near.0, b.far.0, b.neards as u32, b.fards as u32, b.sum.0];
     }
-    [0; 4]
+    [0; 5]
 }
 
 // Numbers written over others from a place on.
@@ -446,15 +446,15 @@ fn put(out: &mut [u32], at: usize, src: &[u32])
 }
 
 // The figures of a mark: the supervisor's, then the levels'.
-fn figures_of(base: [u32; 20], ls: [Level; 6]) -> [u32; 44]
+fn figures_of(base: [u32; 22], ls: [Level; 6]) -> [u32; 52]
     ensures { λ r. ⌜ r ≡ base ++ levelFigures ls ⌝ }
 {
-    let mut out = [0u32; 44];
+    let mut out = [0u32; 52];
     put(&mut out, 0, &base);
     for i in 0..6 {
         let l = ls[i];
-        let four = four_of(l);
-        put(&mut out, 20 + 4 * i, &four);
+        let five = five_of(l);
+        put(&mut out, 22 + 5 * i, &five);
     }
     out
 }
@@ -468,8 +468,8 @@ pub fn mark(t: Tandem) -> TandemMarked
     if a.refusal == 0 {
         let before = t.levels;
         let next = a.supervisor;
-        let twenty = a.figures;
-        let figures = figures_of(twenty, before);
+        let own = a.figures;
+        let figures = figures_of(own, before);
         let after = levels_mark(before);
         return TandemMarked {
             refusal: 0,
@@ -483,33 +483,33 @@ pub fn mark(t: Tandem) -> TandemMarked
     }
     TandemMarked {
         refusal: a.refusal,
-        figures: [0; 44],
+        figures: [0; 52],
         tandem: t,
     }
 }
 
 // A level's figures written over others from a place on, where it is provisioned; the place behind them is handed back.
-fn put_group(out: &mut [u32], at: usize, given: bool, four: &[u32]) -> usize
-    requires { ⌜ at + length (now four) ≤ length (now out) ⌝ }
-    ensures { λ r. ⌜ (now (out .exit) ≡ over (now (out .entry)) at (cond given (now (four .entry)) [])) × (r ≡ at + length (cond given (now (four .entry)) [])) ⌝ }
+fn put_group(out: &mut [u32], at: usize, given: bool, five: &[u32]) -> usize
+    requires { ⌜ at + length (now five) ≤ length (now out) ⌝ }
+    ensures { λ r. ⌜ (now (out .exit) ≡ over (now (out .entry)) at (cond given (now (five .entry)) [])) × (r ≡ at + length (cond given (now (five .entry)) [])) ⌝ }
 {
     if given {
-        put(out, at, four);
-        return at + four.len();
+        put(out, at, five);
+        return at + five.len();
     }
     at
 }
 
-// The figures of an S line, of those of a mark: the twenty, then the four of each provisioned level.
-pub fn listed_figures(ls: [Level; 6], figures: [u32; 44]) -> Listed
+// The figures of an S line, of those of a mark: the twenty-two, then the five of each provisioned level.
+pub fn listed_figures(ls: [Level; 6], figures: [u32; 52]) -> Listed
     ensures { λ r. ⌜ r ≡ listedIn (listedOf ls figures) ⌝ }
 {
-    let mut out = [0u32; 44];
-    put(&mut out, 0, &figures[0..20]);
-    let mut n = 20;
+    let mut out = [0u32; 52];
+    put(&mut out, 0, &figures[0..22]);
+    let mut n = 22;
     for i in 0..6 {
         let given = ls[i].given;
-        n = put_group(&mut out, n, given, &figures[20 + 4 * i..24 + 4 * i]);
+        n = put_group(&mut out, n, given, &figures[22 + 5 * i..27 + 5 * i]);
     }
     Listed { figures: out, n: n }
 }

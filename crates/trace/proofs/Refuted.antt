@@ -27,7 +27,7 @@ use Rattle.trace.proofs.scan.Kinds as scan-kinds
 use Rattle.trace.proofs.scan.Reads as scan-reads
 
 -- a scan starts with no second reported
-pub starts-with-figures : (κs : Lfts 0) (s : AtExit (endedOf 0 start-kinds.ps start-kinds.r) κs) (y : State) → start-reads.Post κs tt y s → y .last ≡ replicate 44 1 → ⊥
+pub starts-with-figures : (κs : Lfts 0) (s : AtExit (endedOf 0 start-kinds.ps start-kinds.r) κs) (y : State) → start-reads.Post κs tt y s → y .last ≡ replicate 52 1 → ⊥
 starts-with-figures κs s y e f =
     let h : _≡_ {A = ℕ} 1 0 = ap (λ (l : List ℕ). getD l 0 0) (sym f ∙ ap (λ (x : State). x .last) e) in
     omega arith

@@ -30,7 +30,7 @@ startOf =
       begun = false;
       kind = 0;
       sup = freshLate (tandem.freshTandem blankSupervisor);
-      last = replicate 44 0;
+      last = replicate 52 0;
       standing = nothingStands;
       levels = replicate 6 tandem.nothing;
     }

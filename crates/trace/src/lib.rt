@@ -15,7 +15,7 @@ pub struct State {
     pub begun: bool,
     pub kind: u8,
     pub sup: Late,
-    pub last: [u32; 44],
+    pub last: [u32; 52],
     pub standing: Standing,
     pub levels: [LevelStands; 6],
 }
@@ -57,7 +57,7 @@ pub fn start() -> State
         begun: false,
         kind: 0,
         sup: sup,
-        last: [0; 44],
+        last: [0; 52],
         standing: none,
         levels: [nothing; 6],
     }

@@ -20,12 +20,12 @@ use Rattle.second.specs.Second.{closedOf, figuresOf}
 use Rattle.level.specs.declared.LevelStands.{LevelStands}
 use Rattle.supervisor.specs.Supervisor.{stepRefusal, stepOf, markOf, standsAfter, frameOf, nextSecond}
 use Rattle.history.specs.History.{Frame, standsAt, framed}
-use Rattle.tandem.specs.Levels.{givenLevel, blankLevel, steppedLevel, markedLevel, fourOf, levelFigures, countAt, frameRule, markRule, framedLevels, markedLevels, levelAt, placedAt, lowTo}
+use Rattle.tandem.specs.Levels.{givenLevel, blankLevel, steppedLevel, markedLevel, fiveOf, levelFigures, countAt, frameRule, markRule, framedLevels, markedLevels, levelAt, placedAt, lowTo}
 use Rattle.tandem.specs.Tandem.{givenBy, giveRefusal, giveOf, frameChecks, frameRefusal, framedOf, markedOf, ssfNow, nothing, levelShown, shownRule, shownLevels, levelReport}
 use Rattle.tandem.specs.declared.Level.{Level}
 use Rattle.tandem.specs.declared.Tandem.{Tandem}
 use Rattle.tandem.specs.declared.Given.{Given}
-use Rattle.tandem.proofs.Turns.{four-long}
+use Rattle.tandem.proofs.Turns.{five-long}
 use Rattle.watch.specs.Watch.{refusalAt, framedAt, groupAt, multiAt, ownFrame, ownLevel, EachOneByOne}
 use Rattle.watch.proofs.Silent.{refusal-same}
 
@@ -43,21 +43,21 @@ at-each rule ls n six low high =
     ∙ ap (λ (m : ℕ). rule m (getD ls (n - 1) blankLevel)) k
     ∙ ap (rule n) (sym (at-number ls n low high))
 
--- the four figures of a level, by its place
-four-at : (ls : List Level) (i : ℕ) → i < length ls → take 4 (drop (4 * i) (levelFigures ls)) ≡ fourOf (getD ls i blankLevel)
+-- the five figures of a level, by its place
+five-at : (ls : List Level) (i : ℕ) → i < length ls → take 5 (drop (5 * i) (levelFigures ls)) ≡ fiveOf (getD ls i blankLevel)
 unfolding levelFigures
-four-at [] i h = absurd (omega arith)
-four-at (l ∷ ls) zero h = take-at (fourOf l) (levelFigures ls) 4 (four-long l)
-four-at (l ∷ ls) (suc i) h =
-    let e : 4 * suc i ≡ length (fourOf l) + 4 * i = rw (four-long l) (omega arith) in
-    rw (e, drop-append-add (fourOf l) (levelFigures ls) (4 * i)) (four-at ls i (omega arith))
+five-at [] i h = absurd (omega arith)
+five-at (l ∷ ls) zero h = take-at (fiveOf l) (levelFigures ls) 5 (five-long l)
+five-at (l ∷ ls) (suc i) h =
+    let e : 5 * suc i ≡ length (fiveOf l) + 5 * i = rw (five-long l) (omega arith) in
+    rw (e, drop-append-add (fiveOf l) (levelFigures ls) (5 * i)) (five-at ls i (omega arith))
 
-pub group-at : (twenty : List ℕ) (ls : List Level) (n : ℕ) → length twenty ≡ 20 → length ls ≡ 6 → 1 ≤ n → n ≤ 6
-    → groupAt (twenty ++ levelFigures ls) n ≡ fourOf (levelAt ls n)
-group-at twenty ls n long six low high =
-    let e : 16 + 4 * n ≡ length twenty + 4 * (n - 1) = omega arith in
+pub group-at : (base : List ℕ) (ls : List Level) (n : ℕ) → length base ≡ 22 → length ls ≡ 6 → 1 ≤ n → n ≤ 6
+    → groupAt (base ++ levelFigures ls) n ≡ fiveOf (levelAt ls n)
+group-at base ls n long six low high =
+    let e : 17 + 5 * n ≡ length base + 5 * (n - 1) = omega arith in
     let h : n - 1 < length ls = omega arith in
-    rw (e, drop-append-add twenty (levelFigures ls) (4 * (n - 1)), at-number ls n low high) (four-at ls (n - 1) h)
+    rw (e, drop-append-add base (levelFigures ls) (5 * (n - 1)), at-number ls n low high) (five-at ls (n - 1) h)
 
 -- an accepted frame is accepted without levels
 low-counts : (a b c : Bool) → (a && b && c) ≡ true → c ≡ true
@@ -173,7 +173,7 @@ module _ (t : Tandem) (n : ℕ) (six : length (t .levels) ≡ 6) (low : 1 ≤ n)
   pub at-mark : markedOf t .refusal ≡ 0 → levelAt (markedOf t .tandem .levels) n ≡ markedLevel (levelAt (t .levels) n)
   at-mark z = ap (λ (u : Tandem). levelAt (u .levels) n) (mark-accepted t z) ∙ at-each markRule (t .levels) n six low high
 
-  pub own-figures : markedOf t .refusal ≡ 0 → groupAt (markedOf t .figures) n ≡ fourOf (levelAt (t .levels) n)
+  pub own-figures : markedOf t .refusal ≡ 0 → groupAt (markedOf t .figures) n ≡ fiveOf (levelAt (t .levels) n)
   unfolding markedOf markOf
   own-figures z = rw (seconds-low t z) (group-at (figuresOf (t .base .seconds + 1) (closedOf (t .base .second))) (t .levels) n refl six low high)
 

@@ -20,7 +20,7 @@ use Rattle.level.specs.Level.{standsBy}
 use Rattle.level.specs.Status.{statusFor}
 use Rattle.supervisor.specs.Supervisor.{markOf}
 use Rattle.history.specs.History.{Frame}
-use Rattle.tandem.specs.Levels.{givenLevel, blankLevel, steppedLevel, markedLevel, fourOf, levelFigures, frameRule, markRule, levelAt, placedAt}
+use Rattle.tandem.specs.Levels.{givenLevel, blankLevel, steppedLevel, markedLevel, fiveOf, levelFigures, frameRule, markRule, levelAt, placedAt}
 use Rattle.tandem.specs.Tandem.{freshTandem, givenBy, framedOf, frameRefusal, markedOf, ssfNow, levelShown, levelReport, levelTraced}
 use Rattle.tandem.specs.declared.Level.{Level}
 use Rattle.tandem.specs.declared.Tandem.{Tandem}
@@ -144,15 +144,15 @@ module _ (n : ℕ) (low : 1 ≤ n) (high : n ≤ 6) where
   pub blank-fresh : levelAt (replicate 6 blankLevel) n ≡ blankLevel
   blank-fresh = at-number (replicate 6 blankLevel) n low high ∙ getD-replicate 6 (n - 1) blankLevel blankLevel (omega arith)
 
-  no-figures : groupAt (replicate 44 0) n ≡ replicate 4 0
-  unfolding levelFigures fourOf
-  no-figures = group-at (replicate 20 0) (replicate 6 blankLevel) n refl refl low high ∙ ap fourOf blank-fresh
+  no-figures : groupAt (replicate 52 0) n ≡ replicate 5 0
+  unfolding levelFigures fiveOf
+  no-figures = group-at (replicate 22 0) (replicate 6 blankLevel) n refl refl low high ∙ ap fiveOf blank-fresh
 
-  zero-figures : (t : Tandem) → Six (t .levels) → levelAt (t .levels) n .given ≡ false → groupAt (markedOf t .figures) n ≡ replicate 4 0
-  unfolding markedOf markOf fourOf
+  zero-figures : (t : Tandem) → Six (t .levels) → levelAt (t .levels) n .given ≡ false → groupAt (markedOf t .figures) n ≡ replicate 5 0
+  unfolding markedOf markOf fiveOf
   zero-figures t all g = by (ltb (t .base .seconds) 4294967295) refl
     where
-      by : (b : Bool) → ltb (t .base .seconds) 4294967295 ≡ b → groupAt (markedOf t .figures) n ≡ replicate 4 0
+      by : (b : Bool) → ltb (t .base .seconds) 4294967295 ≡ b → groupAt (markedOf t .figures) n ≡ replicate 5 0
       by true e = own-figures t n (all .0) low high (rw e) ∙ rw g
       by false e = rw e no-figures
 

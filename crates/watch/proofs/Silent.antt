@@ -62,8 +62,8 @@ unfolding markedOf markOf
 silent-mark t = by (ltb (t .base .seconds) 4294967295) refl
   where
     by : (b : Bool) → ltb (t .base .seconds) 4294967295 ≡ b → SameMark (markedOf t) (markOf (t .base))
-    by true e = record { refusal = rw e; twenty = rw e; base = rw e }
-    by false e = record { refusal = rw e; twenty = rw e; base = rw e }
+    by true e = record { refusal = rw e; figures = rw e; base = rw e }
+    by false e = record { refusal = rw e; figures = rw e; base = rw e }
 
 silent-high : (t : Tandem) (f : Frame) (counts : List ℕ) → lowTo 6 counts ≡ false → framedAt t f counts .tandem ≡ t
 unfolding framedOf

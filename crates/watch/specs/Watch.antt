@@ -23,7 +23,7 @@ use Rattle.supervisor.specs.declared.Stepped.{Stepped}
 use Rattle.supervisor.specs.declared.Marked.{Marked}
 use Rattle.history.specs.History.{Frame, Event, frame, mark, standsAt, framed, Call, does}
 use Rattle.history.specs.History as base
-use Rattle.tandem.specs.Levels.{givenLevel, blankLevel, markedLevel, fourOf, countAt, levelAt, lowTo}
+use Rattle.tandem.specs.Levels.{givenLevel, blankLevel, markedLevel, fiveOf, countAt, levelAt, lowTo}
 use Rattle.tandem.specs.Tandem.{freshTandem, giveRefusal, giveOf, recordRefusal, recordedOf, frameRefusal, framedOf, markedOf, ssfNow, nothing, levelShown, levelReport, levelTraced}
 use Rattle.tandem.specs.declared.Level.{Level}
 use Rattle.tandem.specs.declared.Tandem.{Tandem}
@@ -89,7 +89,7 @@ pub record SameFrame (a : TandemStepped) (b : Stepped) : Type 0 where
 
 pub record SameMark (a : TandemMarked) (b : Marked) : Type 0 where
   pub refusal : a .refusal ≡ b .refusal
-  pub twenty : take 20 (a .figures) ≡ b .figures
+  pub figures : take 22 (a .figures) ≡ b .figures
   pub base : a .tandem .base ≡ b .supervisor
 
 -- "demand 3's heads and failing causes stay those of line, section and path: a level's cause is never a failing one": whatever levels are provisioned, and
@@ -110,9 +110,10 @@ neverGiven n (records m r names ∷ cs) = not (eqb m n) && neverGiven n cs
 neverGiven n (frames f counts ∷ cs) = neverGiven n cs
 neverGiven n (marks ∷ cs) = neverGiven n cs
 
--- "Each S line gains the four figures": in the record level n has its place behind the twenty
+-- "Each S line gains the four figures" (document 02, K1) and "The sum comes last in each layer's group" (K7): in the record level n has its place behind the figures of line,
+-- section and path
 abbrev pub groupAt : List ℕ → ℕ → List ℕ
-groupAt figures n = take 4 (drop (16 + 4 * n) figures)
+groupAt figures n = take 5 (drop (17 + 5 * n) figures)
 
 -- "A level is monitored only if provisioned": one that is not holds blanks, nothing is told of it, it has no trace, and its figures are zeros
 pub record Nothing (t : Tandem) (n : ℕ) : Type 0 where
@@ -121,7 +122,7 @@ pub record Nothing (t : Tandem) (n : ℕ) : Type 0 where
   pub actions : levelReport t n .actions ≡ levelActions nothing
   pub causes : levelReport t n .causes ≡ levelCauses nothing
   pub trace : levelTraced t n .refusal ≡ 13
-  pub zeros : groupAt (markedOf t .figures) n ≡ replicate 4 0
+  pub zeros : groupAt (markedOf t .figures) n ≡ replicate 5 0
 
 -- after every list of calls from a supervisor with no level provisioned
 pub record Unmonitored (s : Supervisor) (cs : List LevelCall) (n : ℕ) : Type 0 where
@@ -169,7 +170,7 @@ pub record OneByOne (t : Tandem) (n : ℕ) : Type 0 where
   pub told : (f : Frame) (counts : List ℕ) → refusalAt t f counts ≡ 0
       → getD (framedAt t f counts .stands) (n - 1) nothing ≡ levelReport (framedAt t f counts .tandem) n .stands
   pub mark : markedOf t .refusal ≡ 0 → levelAt (markedOf t .tandem .levels) n ≡ markedLevel (levelAt (t .levels) n)
-  pub figures : markedOf t .refusal ≡ 0 → groupAt (markedOf t .figures) n ≡ fourOf (levelAt (t .levels) n)
+  pub figures : markedOf t .refusal ≡ 0 → groupAt (markedOf t .figures) n ≡ fiveOf (levelAt (t .levels) n)
   -- the provisioning of it, and of another
   pub given : (r : Request) (names : List ℕ) → giveRefusal t n r names ≡ 0 → levelAt (giveOf t n r names .tandem .levels) n ≡ givenLevel (optionsOf r names)
   pub other : (m : ℕ) (r : Request) (names : List ℕ) → (m ≡ n → ⊥) → levelAt (giveOf t m r names .tandem .levels) n ≡ levelAt (t .levels) n

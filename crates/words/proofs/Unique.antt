@@ -10,8 +10,8 @@ use Rattle.words.proofs.words_in.Kinds as words-in-kinds
 use Rattle.words.proofs.words_in.Reads as words-in-reads
 use Rattle.words.proofs.figures_in.Kinds as figures-in-kinds
 use Rattle.words.proofs.figures_in.Reads as figures-in-reads
-use Rattle.words.proofs.twenty_in.Kinds as twenty-in-kinds
-use Rattle.words.proofs.twenty_in.Reads as twenty-in-reads
+use Rattle.words.proofs.second_in.Kinds as second-in-kinds
+use Rattle.words.proofs.second_in.Reads as second-in-reads
 use Rattle.words.proofs.numbers_in.Kinds as numbers-in-kinds
 use Rattle.words.proofs.numbers_in.Reads as numbers-in-reads
 use Rattle.words.proofs.bytes_of.Kinds as bytes-of-kinds
@@ -26,6 +26,8 @@ use Rattle.words.proofs.lay_words.Kinds as lay-words-kinds
 use Rattle.words.proofs.lay_words.Reads as lay-words-reads
 use Rattle.words.proofs.count_at.Kinds as count-at-kinds
 use Rattle.words.proofs.count_at.Reads as count-at-reads
+use Rattle.words.proofs.add_at.Kinds as add-at-kinds
+use Rattle.words.proofs.add_at.Reads as add-at-reads
 
 pub word-of-one : OneAnswer 0 word-of-kinds.ps word-of-kinds.r word-of-reads.Post
 word-of-one κs a x y s t p q = p ∙ sym q
@@ -39,8 +41,8 @@ record-of-one κs a x y s t p q = p ∙ sym q
 pub figures-in-one : OneAnswer 1 figures-in-kinds.ps figures-in-kinds.r figures-in-reads.Post
 figures-in-one κs a x y s t p q = p ∙ sym q
 
-pub twenty-in-one : OneAnswer 1 twenty-in-kinds.ps twenty-in-kinds.r twenty-in-reads.Post
-twenty-in-one κs a x y s t p q = p ∙ sym q
+pub second-in-one : OneAnswer 1 second-in-kinds.ps second-in-kinds.r second-in-reads.Post
+second-in-one κs a x y s t p q = p ∙ sym q
 
 pub numbers-in-one : OneAnswer 1 numbers-in-kinds.ps numbers-in-kinds.r numbers-in-reads.Post
 numbers-in-one κs a x y s t p q = p ∙ sym q
@@ -59,3 +61,6 @@ lay-words-end κs a x y s t p q = p ∙ sym q
 
 pub count-at-end : OneEnd 1 count-at-kinds.ps count-at-kinds.r (List ℕ) (λ κs s. now (s .0)) count-at-reads.Post
 count-at-end κs a x y s t p q = p ∙ sym q
+
+pub add-at-end : OneEnd 1 add-at-kinds.ps add-at-kinds.r (List ℕ) (λ κs s. now (s .0)) add-at-reads.Post
+add-at-end κs a x y s t p q = p ∙ sym q

@@ -8,10 +8,10 @@ use native.Mathlib.Omega.{arith}
 use lib.ListN.{length, getD, take, drop, replicate, set, length-append}
 use lib.Seq.{take-suc, getD-drop, length-take-le, take-append-add, drop-append-add}
 use borrow.Author.Tests.{le-leb, lt-leb}
-use Rattle.words.specs.Words.{le4, flat, wordAt, wordsOf, wordsIn, countedIn, le8, flat8, numberAt, numbersOf, numbersIn}
+use Rattle.words.specs.Words.{le4, flat, wordAt, wordsOf, wordsIn, countedIn, addedIn, le8, flat8, numberAt, numbersOf, numbersIn}
 use Rattle.answer.specs.Over.{over}
 use Rattle.codec.proofs.Overs.{over-all, laid-done, laid-kept}
-use Rattle.filter.specs.Filter.{upOf}
+use Rattle.filter.specs.Filter.{upOf, addOf}
 use Rattle.answer.proofs.Overs.{set-over, over-length, over-over}
 
 pub flat-append : (x y : List ℕ) → flat (x ++ y) ≡ flat x ++ flat y
@@ -110,6 +110,15 @@ counted d o i n x m h e u w = rw (← e, ← u) (laid-done d (i * 4) 4 (le4 m) o
 pub counted-not : (d : List ℕ) (i n : ℕ) → length d < i * 4 + 4 → d ≡ countedIn d i n
 unfolding countedIn
 counted-not d i n h = laid-kept d (i * 4) 4 (le4 (upOf (wordAt d (i * 4)) n)) refl h
+
+-- the same of so many more
+pub added : (d o : List ℕ) (i more n x m : ℕ) → i * 4 + 4 ≤ length d → x ≡ wordAt d (i * 4) → m ≡ addOf x more n → o ≡ over d (i * 4) (le4 m) → o ≡ addedIn d i more n
+unfolding addedIn
+added d o i more n x m h e u w = rw (← e, ← u) (laid-done d (i * 4) 4 (le4 m) o refl h w)
+
+pub added-not : (d : List ℕ) (i more n : ℕ) → length d < i * 4 + 4 → d ≡ addedIn d i more n
+unfolding addedIn
+added-not d i more n h = laid-kept d (i * 4) 4 (le4 (addOf (wordAt d (i * 4)) more n)) refl h
 
 -- a word of many, read and written in its place
 pub word-in-flat : (ws : List ℕ) (i : ℕ) → getD ws i 0 < 4294967296 → i < length ws → wordAt (flat ws) (i * 4) ≡ getD ws i 0

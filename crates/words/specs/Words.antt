@@ -5,7 +5,7 @@ use Prim.Native.Nat.{ℕ, zero, suc, _+_, _*_, _/_, _%_}
 use lib.Dec.{leb}
 use lib.ListN.{length, getD, drop, replicate}
 use Rattle.codec.specs.Over.{laid}
-use Rattle.filter.specs.Filter.{upOf}
+use Rattle.filter.specs.Filter.{upOf, addOf}
 
 -- the four bytes of x, the lowest first
 abbrev pub le4 : ℕ → List ℕ
@@ -36,6 +36,10 @@ wordsIn n at l = cond (leb (at + n * 4) (length l)) (wordsOf n (drop at l)) (rep
 -- one more in word i, and n at most; nothing where it does not lie within the bytes
 unfoldable pub countedIn : List ℕ → ℕ → ℕ → List ℕ
 countedIn l i n = laid l (i * 4) (le4 (upOf (wordAt l (i * 4)) n))
+
+-- so many more in word i, and `most` at most; nothing where it does not lie within the bytes
+unfoldable pub addedIn : List ℕ → ℕ → ℕ → ℕ → List ℕ
+addedIn l i more most = laid l (i * 4) (le4 (addOf (wordAt l (i * 4)) more most))
 
 -- A number of 64 bits as eight bytes: its low word, then its high word. The same of numbers, and read back.
 abbrev pub le8 : ℕ → List ℕ

@@ -6,7 +6,7 @@ ghost use Prim.Native.Nat.{_+_, _*_, _≤_, _<_};
 ghost use lib.ListN.{length, drop};
 ghost use Rattle.answer.specs.Over.{over};
 ghost use Rattle.codec.specs.Over.{laid};
-ghost use Rattle.words.specs.Words.{le4, flat, wordOf, wordAt, wordsOf, wordsIn, countedIn, le8, flat8, numberAt, numbersOf, numbersIn};
+ghost use Rattle.words.specs.Words.{le4, flat, wordOf, wordAt, wordsOf, wordsIn, countedIn, addedIn, le8, flat8, numberAt, numbersOf, numbersIn};
 ghost use Rattle.words.specs.Ranges.{inside};
 
 fn wide(x: u8) -> u32
@@ -74,26 +74,26 @@ pub fn words_in(b: &[u8], at: u32) -> [u32; 12]
     w
 }
 
-// Forty-three words of b from `at`.
-pub fn figures_in(b: &[u8], at: u32) -> [u32; 43]
-    ensures { λ r. ⌜ r ≡ wordsIn 43 at (now (b .entry)) ⌝ }
+// Fifty-one words of b from `at`: what a pending second holds.
+pub fn figures_in(b: &[u8], at: u32) -> [u32; 51]
+    ensures { λ r. ⌜ r ≡ wordsIn 51 at (now (b .entry)) ⌝ }
 {
     let from = at as usize;
-    let mut v = [0u32; 43];
-    if from + 172 <= b.len() {
+    let mut v = [0u32; 51];
+    if from + 204 <= b.len() {
         read_words(&mut v, b, from);
         return v;
     }
     v
 }
 
-// Twenty words of b from `at`.
-pub fn twenty_in(b: &[u8], at: u32) -> [u32; 20]
-    ensures { λ r. ⌜ r ≡ wordsIn 20 at (now (b .entry)) ⌝ }
+// Twenty-two words of b from `at`: a second's figures of line, section and path.
+pub fn second_in(b: &[u8], at: u32) -> [u32; 22]
+    ensures { λ r. ⌜ r ≡ wordsIn 22 at (now (b .entry)) ⌝ }
 {
     let from = at as usize;
-    let mut f = [0u32; 20];
-    if from + 80 <= b.len() {
+    let mut f = [0u32; 22];
+    if from + 88 <= b.len() {
         read_words(&mut f, b, from);
         return f;
     }
@@ -110,21 +110,21 @@ pub fn lay_words(b: &mut [u8], at: u32, w: [u32; 12])
     }
 }
 
-// The 176 bytes of twenty words and of twenty-four behind them.
-pub fn record_of(v: [u32; 20], w: [u32; 24]) -> [u8; 176]
+// The 208 bytes of twenty-two words and of thirty behind them.
+pub fn record_of(v: [u32; 22], w: [u32; 30]) -> [u8; 208]
     ensures { λ r. ⌜ r ≡ flat (v ++ w) ⌝ }
 {
-    let mut t = [0u8; 176];
+    let mut t = [0u8; 208];
     put_words(&mut t, 0, &v);
-    put_words(&mut t, 80, &w);
+    put_words(&mut t, 88, &w);
     t
 }
 
-// The 176 bytes of a word and of forty-three behind it.
-pub fn numbered_record(number: u32, v: [u32; 43]) -> [u8; 176]
+// The 208 bytes of a word and of fifty-one behind it.
+pub fn numbered_record(number: u32, v: [u32; 51]) -> [u8; 208]
     ensures { λ r. ⌜ r ≡ flat (number ∷ v) ⌝ }
 {
-    let mut t = [0u8; 176];
+    let mut t = [0u8; 208];
     put_word(&mut t, 0, number);
     put_words(&mut t, 4, &v);
     t
@@ -156,6 +156,18 @@ pub fn count_at(b: &mut [u8], i: u32, most: u32)
     }
 }
 
+// So many more in word i, and `most` at most.
+pub fn add_at(b: &mut [u8], i: u32, more: u32, most: u32)
+    ensures { λ _. ⌜ now (b .exit) ≡ addedIn (now (b .entry)) i more most ⌝ }
+{
+    let at = i as usize * 4;
+    if at + 4 <= b.len() {
+        let x = word_at(b, at);
+        let sum = filter::add(x, more, most);
+        put_word(b, at, sum);
+    }
+}
+
 fn wider(x: u32) -> u64
     ensures { λ r. ⌜ (r ≡ x) × (r < 4294967296) ⌝ }
 {
@@ -182,12 +194,12 @@ fn read_numbers(v: &mut [u64], b: &[u8])
     }
 }
 
-// The first twenty-one numbers of 64 bits of b.
-pub fn numbers_in(b: &[u8]) -> [u64; 21]
-    ensures { λ r. ⌜ r ≡ numbersIn 21 (now (b .entry)) ⌝ }
+// The first 23 numbers of 64 bits of b.
+pub fn numbers_in(b: &[u8]) -> [u64; 23]
+    ensures { λ r. ⌜ r ≡ numbersIn 23 (now (b .entry)) ⌝ }
 {
-    let mut v = [0u64; 21];
-    if 168 <= b.len() {
+    let mut v = [0u64; 23];
+    if 184 <= b.len() {
         read_numbers(&mut v, b);
         return v;
     }
@@ -213,11 +225,11 @@ fn put_numbers(b: &mut [u8], v: &[u64])
     }
 }
 
-// The 168 bytes of twenty-one numbers of 64 bits.
-pub fn bytes_of(v: [u64; 21]) -> [u8; 168]
+// The 184 bytes of 23 numbers of 64 bits.
+pub fn bytes_of(v: [u64; 23]) -> [u8; 184]
     ensures { λ r. ⌜ r ≡ flat8 v ⌝ }
 {
-    let mut t = [0u8; 168];
+    let mut t = [0u8; 184];
     put_numbers(&mut t, &v);
     t
 }

@@ -8,6 +8,7 @@
 //! explanation, SUMMARIES: programs that print its quarter-hours and days, and CALLS: programs made of calls.c and a card's library,
 //! likewise. second/compare builds them and sets all four. LEDGER is taken where LEDGERS is not set.
 
+use second::bei_cover::BeiCover;
 use second::card::{Card, Handed, LevelFields, RECORD, TOLD};
 use second::causes_cover::CausesCover;
 use second::cover::Cover;
@@ -82,13 +83,14 @@ fn printed(path: &str, trace: &[u8]) -> String {
     text
 }
 
-/// What was exercised: of line, section and path, of the path's causes, of the levels, of neighbouring seconds, and of summaries.
+/// What was exercised: of line, section and path, of the path's causes, of the levels, of neighbouring seconds, of the far end's violations, and of summaries.
 #[derive(Default)]
 struct Exercised {
     base: Cover,
     causes: CausesCover,
     levels: LevelCover,
     seconds: SecondsCover,
+    violations: BeiCover,
     summaries: SummaryCover,
 }
 
@@ -99,7 +101,8 @@ impl Exercised {
 
     /// The tables, and what in them is wrong.
     fn tables(&self) -> Vec<(String, Vec<String>)> {
-        vec![self.base.table(), self.causes.table(), self.levels.table(), self.seconds.table(), self.summaries.table()]
+        let (base, causes, levels) = (self.base.table(), self.causes.table(), self.levels.table());
+        vec![base, causes, levels, self.seconds.table(), self.violations.table(), self.summaries.table()]
     }
 }
 
@@ -110,7 +113,7 @@ struct Session {
     expected: Vec<u8>,
     /// Where each order's answer begins, and what it was.
     calls: Vec<(usize, String)>,
-    /// Where the second program's own answers are not as demand 3 has them.
+    /// Where the second program's own answers are not as demand 3 has them, or a sum is not within the bounds of its far blocks.
     broken: Vec<String>,
     /// What stood of the levels after the last frame.
     stood: [level::Standing; 6],
@@ -200,6 +203,7 @@ fn step(session: &mut Session, card: &mut Card, sup: u8, f: &Given, cover: &mut 
         cover.causes.frame(&s.standing(), !s.provisioning.acts(1));
         cover.levels.follow(s, &mut session.stood);
         cover.seconds.frame(s);
+        cover.violations.frame(s, f.overhead);
         let acts = [s.provisioning.acts(0), s.provisioning.acts(1)];
         session.broken.extend(demand_3(word, acts));
     }
@@ -211,6 +215,7 @@ fn mark(session: &mut Session, card: &mut Card, sup: u8, room: usize, fill: u8, 
     let mut buffer = vec![fill; room];
     if let (0, Some(s)) = (sup, &card.supervisor) {
         cover.seconds.mark(s);
+        cover.violations.mark();
     }
     let word = card.mark(sup == 0, &mut buffer);
     cover.base.marks += u64::from(word & 255 == 0);
@@ -223,7 +228,7 @@ fn pending(session: &mut Session, card: &Card, sup: u8, room: usize, fill: u8, c
     told(session, b'Q', sup, word, fill, buffer, cover)
 }
 
-/// The order of otn_mark or otn_pending, and its answer: the word and the record. The record is handed back where it has the twenty figures.
+/// The order of otn_mark or otn_pending, and its answer: the word and the record. The record is handed back where it has the 22 figures.
 fn told(
     session: &mut Session,
     order: u8,
@@ -238,11 +243,14 @@ fn told(
     session.orders.push(fill);
     let name = if order == b'M' { "otn_mark" } else { "otn_pending" };
     session.answer(format!("{name}, {} bytes", buffer.len()), word, &buffer, cover);
-    if word != TOLD || buffer.len() < 80 {
+    if word != TOLD || buffer.len() < 88 {
         return None;
     }
     let figure = |i: usize| u32::from_le_bytes(buffer[4 * i..4 * i + 4].try_into().unwrap());
     session.broken.extend(demand_3_second(&std::array::from_fn(figure)));
+    if buffer.len() >= RECORD {
+        session.broken.extend(bounds(&std::array::from_fn(figure)));
+    }
     Some(buffer)
 }
 
@@ -328,19 +336,26 @@ fn demand_3(word: u64, acts: [bool; 2]) -> Option<String> {
     let causes = [(44, 3, true), (45, 4, true), (46, 5, acts[0]), (50, 7, true), (51, 8, true), (52, 9, acts[1])];
     for (place, of, fails) in causes {
         if fails && stands(place) != (head == of) {
-            return Some(format!("head {head}, cause of head {of}: {}", stands(place)));
+            return Some(format!("demand 3: head {head}, cause of head {of}: {}", stands(place)));
         }
     }
-    (stands(37) != (head != 0)).then(|| format!("head {head}, path failed: {}", stands(37)))
+    (stands(37) != (head != 0)).then(|| format!("demand 3: head {head}, path failed: {}", stands(37)))
 }
 
 /// And of a second that is told.
-fn demand_3_second(s: &[u32; 20]) -> Option<String> {
+fn demand_3_second(s: &[u32; 22]) -> Option<String> {
     if s[2..12].iter().sum::<u32>() != s[1] {
-        return Some(format!("the ten figures do not add up to the frames: {s:?}"));
+        return Some(format!("demand 3: the ten figures do not add up to the frames: {s:?}"));
     }
     let most = s[2] + s[11];
-    (s[16] > most || s[17] > most).then(|| format!("more path blocks than frames clear or under path trace mismatch: {s:?}"))
+    (s[17] > most || s[18] > most)
+        .then(|| format!("demand 3: more path blocks than frames clear or under path trace mismatch: {s:?}"))
+}
+
+/// "In each reported second the sum is at least the far blocks and at most eight times them": of section, path and each level.
+fn bounds(record: &[u32; RECORD / 4]) -> Option<String> {
+    let broken = |five: &&[u32]| five[4] < five[1] || five[4] > 8 * five[1];
+    record[12..].chunks(5).find(broken).map(|five| format!("a sum out of its bounds: {five:?}"))
 }
 
 /// A supervisor that is refused with 17, but for otn_fresh: of a wrong length, or with numbers beyond their ranges.
@@ -348,14 +363,14 @@ fn refused(rng: &mut Random) -> u8 {
     if rng.once_in(2) {
         return rng.within(1, 4) as u8;
     }
-    rng.within(5, 47) as u8
+    rng.within(5, 55) as u8
 }
 
 /// Any room for a record, mostly the right one.
 fn any_room(rng: &mut Random) -> usize {
     match rng.below(8) {
         0 => rng.below(300) as usize,
-        1 => rng.pick(&[0, 1, 5, 80, 175, 177, 200]),
+        1 => rng.pick(&[0, 1, 5, 88, 207, 209, 240]),
         _ => RECORD,
     }
 }
@@ -388,7 +403,7 @@ fn aside(rng: &mut Random, session: &mut Session, card: &mut Card, p: &Provision
             let f = Given { overhead: &good, flags: 0, counts: [0; 2], six };
             step(session, card, refused(rng), &f, cover);
         }
-        4 => drop(mark(session, card, refused(rng), rng.pick(&[0, 1, 79, 80, 81, 175, 176, 177]), rng.byte(), cover)),
+        4 => drop(mark(session, card, refused(rng), rng.pick(&[0, 1, 87, 88, 89, 207, 208, 209]), rng.byte(), cover)),
         10 => drop(pending(session, card, sup, any_room(rng), rng.byte(), cover)),
         5 | 6 => {
             let layer = if rng.once_in(4) { rng.byte() } else { rng.below(2) as u8 };
@@ -533,6 +548,7 @@ fn session(rng: &mut Random, g: &Generated, caller: &Caller, cover: &mut Exercis
         summed(&mut session, handed, *room, rng.byte(), cover);
     }
     card.supervisor.iter().for_each(|s| cover.seconds.end(s));
+    cover.violations.end();
     session.orders.push(b'Z');
     session
 }
@@ -784,7 +800,7 @@ impl Run<'_> {
         let caller = Caller { handed, roomy };
         let session = session(&mut Random::new(mixed), &g, &caller, &mut self.cover);
         for broken in session.broken.iter().take(1) {
-            differs(format!("{whose}: second: demand 3: {broken}"));
+            differs(format!("{whose}: second: {broken}"));
         }
         self.workers.give(Task { whose, trace: g.bytes, listing, quarters, explanation, session: Some(session) });
     }

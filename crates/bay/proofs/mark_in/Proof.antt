@@ -3,14 +3,14 @@ use mathlib.Core.Path.{_≡_, refl}
 use native.Mathlib.Omega.{arith}
 use denote.Ref.{now}
 use lib.ListN.{drop}
-use Rattle.bay.specs.Bay.{recordsOf, givenRule, markRecord, fourRule}
-use Rattle.bay.proofs.Chains.{records-long, Written, write-start, write-turn, Turned, flag-stays, record-stays, bay-turn, bay-done, four-done}
+use Rattle.bay.specs.Bay.{recordsOf, givenRule, markRecord, fiveRule}
+use Rattle.bay.proofs.Chains.{records-long, Written, write-start, write-turn, Turned, flag-stays, record-stays, bay-turn, bay-done, five-done}
 use borrow.Author.Needs.{needs}
 use Rattle.bay.proofs.mark_in.Statement.{statement}
 use Rattle.bay.proofs.mark_in.Tie as tie
 
 abbrev Inv-loop : tie.InvT-loop
-Inv-loop b₀ out₀ i₀ b out i = (i ≤ 6) × Turned (givenRule markRecord b₀) b₀ i b × Written (fourRule b₀) (recordsOf b₀) out₀ 0 4 i out
+Inv-loop b₀ out₀ i₀ b out i = (i ≤ 6) × Turned (givenRule markRecord b₀) b₀ i b × Written (fiveRule b₀) (recordsOf b₀) out₀ 0 5 i out
 
 abbrev μ-loop : tie.MeasureT-loop
 μ-loop b₀ out₀ i₀ b out i = 6 - i
@@ -45,14 +45,14 @@ part-one-mark-end c = search needs
 one-mark-requires : tie.Need-one-mark-requires Inv-loop μ-loop
 one-mark-requires c κs = search needs
 
-slice-aggregate-put-four : tie.Need-slice-aggregate-put-four Inv-loop μ-loop
-slice-aggregate-put-four c = search needs
+slice-aggregate-put-five : tie.Need-slice-aggregate-put-five Inv-loop μ-loop
+slice-aggregate-put-five c = search needs
 
-mul-put-four : tie.Need-mul-put-four Inv-loop μ-loop
-mul-put-four c = search needs
+mul-put-five : tie.Need-mul-put-five Inv-loop μ-loop
+mul-put-five c = search needs
 
-put-four-requires : tie.Need-put-four-requires Inv-loop μ-loop
-put-four-requires c κs = search needs
+put-five-requires : tie.Need-put-five-requires Inv-loop μ-loop
+put-five-requires c κs = search needs
 
 add-i : tie.Need-add-i Inv-loop μ-loop
 add-i c = search needs
@@ -70,7 +70,7 @@ loop-again c =
     let g = flag-stays f b (l .b) (l .i) (s .pre) (omega arith) (l .inv .1) in
     let m = c .before .before .before .before .before .one-mark .ensures in
     let t = bay-turn f b (l .b) _ (l .i) (s .pre) (omega arith) (l .inv .1) (omega arith) (rw (r, g) at (m .holds)) in
-    let w = write-turn (fourRule b) (recordsOf b) _ 0 4 (l .out) _ _ (l .i) (4 * l .i) (omega (arith, records-long 6 (drop 32 b))) (l .inv .2) (omega arith) (omega arith) (omega arith) (rw (r, g) at (m .answers)) (c .before .put-four .ensures) in
+    let w = write-turn (fiveRule b) (recordsOf b) _ 0 5 (l .out) _ _ (l .i) (5 * l .i) (omega (arith, records-long 6 (drop 32 b))) (l .inv .2) (omega arith) (omega arith) (omega arith) (rw (r, g) at (m .answers)) (c .before .put-five .ensures) in
     (omega arith, t, w)
 
 same-length : tie.Need-same-length Inv-loop μ-loop
@@ -82,7 +82,7 @@ returns c =
     let s = c .before .before .before in
     let b = now (s .args .b) in
     let e : l .i ≡ 6 = omega arith in
-    (four-done (fourRule b) b _ (l .out) refl (rw e at (l .inv .2)), bay-done (givenRule markRecord b) b (l .b) (s .pre) (rw e at (l .inv .1)))
+    (five-done (fiveRule b) b _ (l .out) refl (rw e at (l .inv .2)), bay-done (givenRule markRecord b) b (l .b) (s .pre) (rw e at (l .inv .1)))
 
 pub mark-in-spec : {M : Type 1} → statement M
 mark-in-spec =
@@ -100,9 +100,9 @@ mark-in-spec =
     part-one-mark-start
     part-one-mark-end
     one-mark-requires
-    slice-aggregate-put-four
-    mul-put-four
-    put-four-requires
+    slice-aggregate-put-five
+    mul-put-five
+    put-five-requires
     add-i
     loop-less
     loop-again

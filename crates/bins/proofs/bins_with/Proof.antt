@@ -4,8 +4,8 @@ use borrow.Author.Needs.{needs}
 use Rattle.bins.proofs.bins_with.Statement.{statement}
 use Rattle.bins.proofs.bins_with.Tie as tie
 
-twenty-of-requires : tie.Need-twenty-of-requires
-twenty-of-requires c κs = search needs
+without-levels-requires : tie.Need-without-levels-requires
+without-levels-requires c κs = search needs
 
 second-of-requires : tie.Need-second-of-requires
 second-of-requires c κs = search needs
@@ -18,9 +18,9 @@ join-requires-2 c κs = search needs
 
 returns : tie.Need-returns
 unfolding binsWith secondOf
-returns c = rw (c .before .before .join2 .ensures, c .before .before .before .join .ensures, c .before .before .before .before .second-of .ensures, c .before .before .before .before .before .twenty-of .ensures)
+returns c = rw (c .before .before .join2 .ensures, c .before .before .before .join .ensures, c .before .before .before .before .second-of .ensures, c .before .before .before .before .before .without-levels .ensures)
 
 pub bins-with-spec : {M : Type 1} → statement M
 bins-with-spec =
     tie.close
-    (tie.spec twenty-of-requires second-of-requires join-requires join-requires-2 returns)
+    (tie.spec without-levels-requires second-of-requires join-requires join-requires-2 returns)

@@ -10,7 +10,7 @@ use Rattle.bins.proofs.put_bins.Tie as tie
 returns : tie.Need-returns
 returns c =
     let a = c .before .before .args in
-    let z = fits-not (now (a .out)) (a .at) 928 (binLines (a .quarter) (a .day) (a .b)) (omega arith) in
+    let z = fits-not (now (a .out)) (a .at) 1094 (binLines (a .quarter) (a .day) (a .b)) (omega arith) in
     (z .0, omega arith, z .1)
 
 sub-if2 : tie.Need-sub-if2
@@ -19,7 +19,7 @@ sub-if2 c = search needs
 returns-2 : tie.Need-returns-2
 returns-2 c =
     let a = c .before .before .before .args in
-    let z = fits-not (now (a .out)) (a .at) 928 (binLines (a .quarter) (a .day) (a .b)) (omega arith) in
+    let z = fits-not (now (a .out)) (a .at) 1094 (binLines (a .quarter) (a .day) (a .b)) (omega arith) in
     (z .0, omega arith, z .1)
 
 put-both-requires : tie.Need-put-both-requires
@@ -31,7 +31,7 @@ same-length c = search needs
 returns-3 : tie.Need-returns-3
 returns-3 c =
     let x = c .before .before .put-both in
-    let z = wrote-fits 928 (omega arith) (x .ensures) in
+    let z = wrote-fits 1094 (omega arith) (x .ensures) in
     (z .0, omega (arith, x .ensures .place, x .ensures .bound), z .1)
 
 pub put-bins-spec : {M : Type 1} → statement M

@@ -27,15 +27,15 @@ returns : tie.Need-returns
 returns c =
     let a = c .before .before .before .before .before .before .before .before .args in
     let x = c .before .before .bin-line in
-    let most : length (binLine (a .letter) (a .size) (a .s)) ≤ 464 = line-length (a .letter) (binNumber (a .s .first) (a .size) ∷ numbersOf (a .s)) in
+    let most : length (binLine (a .letter) (a .size) (a .s)) ≤ 506 = line-length (a .letter) (binNumber (a .s .first) (a .size) ∷ numbersOf (a .s)) in
     let e = rw (c .before .before .before .before .numbers-of .ensures, c .before .before .before .before .before .number-of .ensures) at (x .ensures .0) in
     let f = rw (c .before .before .before .before .numbers-of .ensures, c .before .before .before .before .before .number-of .ensures) at (x .ensures .2) in
-    rw (c .before .before .before .before .before .before .if1 .taken) (wrote-fitted 464 (a .at) _ 464 (now (a .out)) _ (binLine (a .letter) (a .size) (a .s)) (omega (arith, c .before .before .before .before .before .before .before .before .pre .1)) most most (e, f))
+    rw (c .before .before .before .before .before .before .if1 .taken) (wrote-fitted 506 (a .at) _ 506 (now (a .out)) _ (binLine (a .letter) (a .size) (a .s)) (omega (arith, c .before .before .before .before .before .before .before .before .pre .1)) most most (e, f))
 
 returns-2 : tie.Need-returns-2
 returns-2 c =
     let a = c .before .before .args in
-    rw (c .if1 .left) (wrote-none 464 (a .at) (now (a .out)) (omega (arith, c .before .before .pre .1)))
+    rw (c .if1 .left) (wrote-none 506 (a .at) (now (a .out)) (omega (arith, c .before .before .pre .1)))
 
 pub put-if-spec : {M : Type 1} → statement M
 put-if-spec =

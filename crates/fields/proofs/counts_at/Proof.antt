@@ -2,6 +2,9 @@ use borrow.Author.Needs.{needs}
 use Rattle.fields.proofs.counts_at.Statement.{statement}
 use Rattle.fields.proofs.counts_at.Tie as tie
 
+add-at-requires : tie.Need-add-at-requires
+add-at-requires c κs = search needs
+
 bump-requires : tie.Need-bump-requires
 bump-requires c κs = search needs
 
@@ -12,7 +15,9 @@ same-length : tie.Need-same-length
 same-length c = search needs
 
 returns : tie.Need-returns
-returns c = rw (c .before .before .before .before .before .before .bump .ensures) at (c .before .before .bump2 .ensures)
+returns c =
+    let k = c .before .before .before .before .before .before in
+    rw (k .bump .ensures, k .before .before .before .before .add-at .ensures) at (c .before .before .bump2 .ensures)
 
 pub counts-at-spec : {M : Type 1} → statement M
-counts-at-spec = tie.close (tie.spec bump-requires bump-requires-2 same-length returns)
+counts-at-spec = tie.close (tie.spec add-at-requires bump-requires bump-requires-2 same-length returns)

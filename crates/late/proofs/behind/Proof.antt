@@ -9,10 +9,10 @@ use Rattle.late.proofs.behind.Statement.{statement}
 use Rattle.late.proofs.behind.Tie as tie
 
 abbrev Inv-loop : tie.InvT-loop
-Inv-loop figures out₀ i₀ out i = (i ≤ 43) × (take i out ≡ take i (drop 1 figures)) × (length out ≡ 43)
+Inv-loop figures out₀ i₀ out i = (i ≤ 51) × (take i out ≡ take i (drop 1 figures)) × (length out ≡ 51)
 
 abbrev μ-loop : tie.MeasureT-loop
-μ-loop figures out₀ i₀ out i = 43 - i
+μ-loop figures out₀ i₀ out i = 51 - i
 
 loop-holds : tie.Need-loop-holds Inv-loop μ-loop
 loop-holds c = (omega arith, refl, refl)
@@ -50,8 +50,8 @@ returns : tie.Need-returns Inv-loop μ-loop
 returns c =
     let l = c .before .loop in
     let a = c .before .before .args in
-    let e : l .i ≡ 43 = omega arith in
-    whole (l .out) (drop 1 (a .t1)) 43 (rw e at (l .inv .1)) (omega arith) (simp length-drop (omega arith))
+    let e : l .i ≡ 51 = omega arith in
+    whole (l .out) (drop 1 (a .t1)) 51 (rw e at (l .inv .1)) (omega arith) (simp length-drop (omega arith))
 
 pub behind-spec : {M : Type 1} → statement M
 behind-spec =

@@ -10,10 +10,10 @@ use Rattle.late.proofs.numbered.Statement.{statement}
 use Rattle.late.proofs.numbered.Tie as tie
 
 abbrev Inv-loop : tie.InvT-loop
-Inv-loop number v out₀ i₀ out i = (i ≤ 43) × (take (i + 1) out ≡ take (i + 1) (number ∷ v)) × (length out ≡ 44)
+Inv-loop number v out₀ i₀ out i = (i ≤ 51) × (take (i + 1) out ≡ take (i + 1) (number ∷ v)) × (length out ≡ 52)
 
 abbrev μ-loop : tie.MeasureT-loop
-μ-loop number v out₀ i₀ out i = 43 - i
+μ-loop number v out₀ i₀ out i = 51 - i
 
 loop-holds : tie.Need-loop-holds Inv-loop μ-loop
 loop-holds c = (omega arith, refl, refl)
@@ -50,8 +50,8 @@ returns : tie.Need-returns Inv-loop μ-loop
 returns c =
     let l = c .before .loop in
     let a = c .before .before .args in
-    let e : l .i ≡ 43 = omega arith in
-    whole (l .out) (a .number ∷ a .t2) 44 (rw e at (l .inv .1)) (omega arith) (omega arith)
+    let e : l .i ≡ 51 = omega arith in
+    whole (l .out) (a .number ∷ a .t2) 52 (rw e at (l .inv .1)) (omega arith) (omega arith)
 
 pub numbered-spec : {M : Type 1} → statement M
 numbered-spec =

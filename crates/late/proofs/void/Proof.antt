@@ -12,7 +12,7 @@ use Rattle.late.proofs.void.Statement.{statement}
 use Rattle.late.proofs.void.Tie as tie
 
 abbrev Inv-loop : tie.InvT-loop
-Inv-loop levels n₀ i₀ n i = (i ≤ 6) × (length n ≡ length n₀) × (n ≡ over n₀ 19 (voidLevels (take i levels) (drop 19 n₀)))
+Inv-loop levels n₀ i₀ n i = (i ≤ 6) × (length n ≡ length n₀) × (n ≡ over n₀ 21 (voidLevels (take i levels) (drop 21 n₀)))
 
 abbrev μ-loop : tie.MeasureT-loop
 μ-loop levels n₀ i₀ n i = 6 - i

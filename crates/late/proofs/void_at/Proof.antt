@@ -51,6 +51,18 @@ slice-read-kept-4 c = search needs
 kept-requires-4 : tie.Need-kept-requires-4
 kept-requires-4 c κs = search needs
 
+add-kept-4 : tie.Need-add-kept-4
+add-kept-4 c = search needs
+
+mul-kept-5 : tie.Need-mul-kept-5
+mul-kept-5 c = search needs
+
+slice-read-kept-5 : tie.Need-slice-read-kept-5
+slice-read-kept-5 c = search needs
+
+kept-requires-5 : tie.Need-kept-requires-5
+kept-requires-5 c κs = search needs
+
 mul-v : tie.Need-mul-v
 mul-v c = search needs
 
@@ -84,14 +96,24 @@ mul-v-4 c = search needs
 slice-write-v-4 : tie.Need-slice-write-v-4
 slice-write-v-4 c = simp length-set (omega arith)
 
+add-v-4 : tie.Need-add-v-4
+add-v-4 c = search needs
+
+mul-v-5 : tie.Need-mul-v-5
+mul-v-5 c = search needs
+
+slice-write-v-5 : tie.Need-slice-write-v-5
+slice-write-v-5 c = simp length-set (omega arith)
+
 same-length : tie.Need-same-length
 same-length c = search needs
 
 returns : tie.Need-returns
 returns c =
-    let b = c .before .before .before .before .before .before .before .before .before .before .before in
-    void-put (now (b .args .v)) (b .args .at) (b .args .e) _ _ _ _ (b .pre) (c .before .before .before .before .before .before .before .before .kept .ensures)
-    (c .before .before .before .before .before .kept2 .ensures) (c .before .before .before .kept3 .ensures) (c .kept4 .ensures)
+    let b = c .before .before .before .before .before .before .before .before in
+    let a = b .before .before .before .before .before .before in
+    void-put (now (a .args .v)) (a .args .at) (a .args .e) _ _ _ _ _ (a .pre) (b .before .before .before .kept .ensures) (b .kept2 .ensures)
+    (c .before .before .before .before .before .before .kept3 .ensures) (c .before .before .before .kept4 .ensures) (c .kept5 .ensures)
 
 pub void-at-spec : {M : Type 1} → statement M
 void-at-spec =
@@ -112,6 +134,10 @@ void-at-spec =
     mul-kept-4
     slice-read-kept-4
     kept-requires-4
+    add-kept-4
+    mul-kept-5
+    slice-read-kept-5
+    kept-requires-5
     mul-v
     slice-write-v
     add-v
@@ -123,5 +149,8 @@ void-at-spec =
     add-v-3
     mul-v-4
     slice-write-v-4
+    add-v-4
+    mul-v-5
+    slice-write-v-5
     same-length
     returns)

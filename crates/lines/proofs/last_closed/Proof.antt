@@ -44,12 +44,12 @@ returns c =
     let v : List ℕ = restLines (openedOf w (getD (a .t2) 0 0)) in
     let e = c .before .before .before .before .before .before .before .before .before .bins-with .ensures in
     let o = c .before .before .before .before .opened .ensures in
-    let f = fitted-is (length (now (a .out))) (a .at) 928 u (omega (arith, h)) in
+    let f = fitted-is (length (now (a .out))) (a .at) 1094 u (omega (arith, h)) in
     let p : Put (now (a .out)) (a .at) (x .result) (x .last .1 .1 .0) u = record {
       place = (rw e at (x .ensures .0)) ∙ ap (λ (l : List ℕ). a .at + length l) f;
       text = (rw e at (x .ensures .2)) ∙ ap (over (now (a .out)) (a .at)) f;
     } in
-    let g = fitted-is (length (x .last .1 .1 .0)) (x .result) 928 v (omega (arith, h, x .ensures .1, x .kept .1 .1 .0)) in
+    let g = fitted-is (length (x .last .1 .1 .0)) (x .result) 1094 v (omega (arith, h, x .ensures .1, x .kept .1 .1 .0)) in
     let q : Put (x .last .1 .1 .0) (x .result) (y .result) (y .last .1 .0) v = record {
       place = (rw (o, e) at (y .ensures .0)) ∙ ap (λ (l : List ℕ). x .result + length l) g;
       text = (rw (o, e) at (y .ensures .2)) ∙ ap (over (x .last .1 .1 .0) (x .result)) g;

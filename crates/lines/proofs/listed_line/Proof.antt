@@ -22,7 +22,7 @@ returns c =
     let l = c .before .before .before .before .before .listed-figures in
     let x = c .before .before .second-line in
     let v = listedOf (a .levels) (a .second) in
-    let e : take (l .result .n) (l .result .figures) ≡ v = ap (λ (r : Listed). take (r .n) (r .figures)) (l .ensures) ∙ over-start (replicate 44 0) v (length v) refl in
+    let e : take (l .result .n) (l .result .figures) ≡ v = ap (λ (r : Listed). take (r .n) (r .figures)) (l .ensures) ∙ over-start (replicate 52 0) v (length v) refl in
     (rw e at (x .ensures .0), x .ensures .1, rw e at (x .ensures .2))
 
 pub listed-line-spec : {M : Type 1} → statement M

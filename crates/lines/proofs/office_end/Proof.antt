@@ -39,7 +39,7 @@ returns-2 c =
     let q = c .before .before .before .before .before .pending in
     let x = c .before .before .rest-lines in
     let t = ap (λ (r : PendingSecond). r .told) (sym (q .ensures)) ∙ c .before .before .before .before .if1 .left in
-    let f = fitted-is (length (now (a .out))) (a .at) 928 (restLines (a .b)) (omega (arith, c .before .before .before .before .before .before .before .before .pre)) in
+    let f = fitted-is (length (now (a .out))) (a .at) 1094 (restLines (a .b)) (omega (arith, c .before .before .before .before .before .before .before .before .pre)) in
     rw t (x .ensures .0 ∙ ap (λ (w : List ℕ). a .at + length w) f, omega (arith, x .ensures .1), x .ensures .2 ∙ ap (over (now (a .out)) (a .at)) f)
 
 pub office-end-spec : {M : Type 1} → statement M

@@ -31,7 +31,7 @@ returns c =
     let x = c .before .before .listed-line in
     let l : List ℕ = secondLine (listedIn (a .st) (q .result .figures)) in
     let e = ap (λ (r : PendingSecond). secondLine (listedIn (a .st) (r .figures))) (q .ensures) ∙ sym (pending-some (a .st) (ap (λ (r : PendingSecond). r .told) (sym (q .ensures)) ∙ c .before .before .before .before .before .if1 .taken)) in
-    let f = fitted-is (length (now (a .out))) (a .at) 928 l (omega (arith, c .before .before .before .before .before .before .before .before .before .before .pre)) ∙ e in
+    let f = fitted-is (length (now (a .out))) (a .at) 1094 l (omega (arith, c .before .before .before .before .before .before .before .before .before .before .pre)) ∙ e in
     (x .ensures .0 ∙ ap (λ (w : List ℕ). a .at + length w) f, x .ensures .1, x .ensures .2 ∙ ap (over (now (a .out)) (a .at)) f)
 
 returns-2 : tie.Need-returns-2

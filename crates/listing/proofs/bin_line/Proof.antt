@@ -23,13 +23,13 @@ same-length c = search needs
 returns : tie.Need-returns
 returns c =
     let x = c .before .before .put-numbered in
-    let z = wrote-fits 464 (omega (arith, c .before .before .before .before .before .if1 .taken, c .before .before .before .before .before .before .room .ensures)) (x .ensures) in
+    let z = wrote-fits 506 (omega (arith, c .before .before .before .before .before .if1 .taken, c .before .before .before .before .before .before .room .ensures)) (x .ensures) in
     (z .0, omega (arith, x .ensures .place, x .ensures .bound), z .1)
 
 returns-2 : tie.Need-returns-2
 returns-2 c =
     let a = c .before .before .before .args in
-    let z = fits-not (now (a .out)) (a .at) 464 (textLine (a .letter) (a .number ∷ a .t3)) (omega (arith, c .if1 .left, c .before .room .ensures)) in
+    let z = fits-not (now (a .out)) (a .at) 506 (textLine (a .letter) (a .number ∷ a .t3)) (omega (arith, c .if1 .left, c .before .room .ensures)) in
     (z .0, omega arith, z .1)
 
 pub bin-line-spec : {M : Type 1} → statement M

@@ -37,8 +37,8 @@ returns c =
     let a = c .before .before .before .before .before .before .before .before .before .before .before .args in
     let x = c .before .before .put-line in
     let e : a .n - 0 ≡ a .n = omega arith in
-    let k : length (take (a .n - 0) (c .before .before .before .before .before .before .before .widened .result)) ≤ 44 = simp length-take (omega arith) in
-    let z = wrote-fits 928 (omega (arith, c .before .before .before .before .before .before .before .before .if1 .taken, c .before .before .before .before .before .before .before .before .before .room .ensures)) (rw (e, c .before .before .before .before .before .before .before .widened .ensures) at (x .ensures)) in
+    let k : length (take (a .n - 0) (c .before .before .before .before .before .before .before .widened .result)) ≤ 52 = simp length-take (omega arith) in
+    let z = wrote-fits 1094 (omega (arith, c .before .before .before .before .before .before .before .before .if1 .taken, c .before .before .before .before .before .before .before .before .before .room .ensures)) (rw (e, c .before .before .before .before .before .before .before .widened .ensures) at (x .ensures)) in
     (z .0, omega (arith, k, x .ensures .place, x .ensures .bound), z .1)
 
 slice-aggregate-put-line : tie.Need-slice-aggregate-put-line
@@ -54,13 +54,13 @@ returns-2 : tie.Need-returns-2
 returns-2 c =
     let a = c .before .before .before .before .before .before .before .before .before .before .args in
     let x = c .before .before .put-line2 in
-    let z = wrote-fits 928 (omega (arith, c .before .before .before .before .before .before .before .if1 .taken, c .before .before .before .before .before .before .before .before .room .ensures)) (rw (c .before .before .before .before .before .before .widened .ensures) at (x .ensures)) in
+    let z = wrote-fits 1094 (omega (arith, c .before .before .before .before .before .before .before .if1 .taken, c .before .before .before .before .before .before .before .before .room .ensures)) (rw (c .before .before .before .before .before .before .widened .ensures) at (x .ensures)) in
     rw (take-all (a .n) (a .figures) (omega arith)) (z .0, omega (arith, x .ensures .place, x .ensures .bound), z .1)
 
 returns-3 : tie.Need-returns-3
 returns-3 c =
     let a = c .before .before .before .args in
-    let z = fits-not (now (a .out)) (a .at) 928 (textLine 83 (take (a .n) (a .figures))) (omega (arith, c .if1 .left, c .before .room .ensures)) in
+    let z = fits-not (now (a .out)) (a .at) 1094 (textLine 83 (take (a .n) (a .figures))) (omega (arith, c .if1 .left, c .before .room .ensures)) in
     (z .0, omega arith, z .1)
 
 pub second-line-spec : {M : Type 1} → statement M

@@ -8,10 +8,10 @@ use Rattle.listing.proofs.widened.Statement.{statement}
 use Rattle.listing.proofs.widened.Tie as tie
 
 abbrev Inv-loop : tie.InvT-loop
-Inv-loop figures ns₀ i₀ ns i = (i ≤ 44) × (length ns ≡ 44) × (take i ns ≡ take i figures)
+Inv-loop figures ns₀ i₀ ns i = (i ≤ 52) × (length ns ≡ 52) × (take i ns ≡ take i figures)
 
 abbrev μ-loop : tie.MeasureT-loop
-μ-loop figures ns₀ i₀ ns i = 44 - i
+μ-loop figures ns₀ i₀ ns i = 52 - i
 
 loop-holds : tie.Need-loop-holds Inv-loop μ-loop
 loop-holds c = (omega arith, refl, refl)

@@ -32,14 +32,29 @@ array-read-word-of-8 c = search needs
 word-of-requires-2 : tie.Need-word-of-requires-2
 word-of-requires-2 c κs = search needs
 
-array-read-t7 : tie.Need-array-read-t7
-array-read-t7 c = search needs
+array-read-word-of-9 : tie.Need-array-read-word-of-9
+array-read-word-of-9 c = search needs
 
-array-read-t10 : tie.Need-array-read-t10
-array-read-t10 c = search needs
+array-read-word-of-10 : tie.Need-array-read-word-of-10
+array-read-word-of-10 c = search needs
+
+array-read-word-of-11 : tie.Need-array-read-word-of-11
+array-read-word-of-11 c = search needs
+
+array-read-word-of-12 : tie.Need-array-read-word-of-12
+array-read-word-of-12 c = search needs
+
+word-of-requires-3 : tie.Need-word-of-requires-3
+word-of-requires-3 c κs = search needs
+
+array-read-t8 : tie.Need-array-read-t8
+array-read-t8 c = search needs
+
+array-read-t17 : tie.Need-array-read-t17
+array-read-t17 c = search needs
 
 returns : tie.Need-returns
-returns c = rw (c .before .word-of .ensures, c .word-of2 .ensures)
+returns c = rw (c .before .before .word-of .ensures, c .before .word-of2 .ensures, c .word-of3 .ensures)
 
 pub blocks-of-spec : {M : Type 1} → statement M
 blocks-of-spec =
@@ -55,6 +70,11 @@ blocks-of-spec =
     array-read-word-of-7
     array-read-word-of-8
     word-of-requires-2
-    array-read-t7
-    array-read-t10
+    array-read-word-of-9
+    array-read-word-of-10
+    array-read-word-of-11
+    array-read-word-of-12
+    word-of-requires-3
+    array-read-t8
+    array-read-t17
     returns)

@@ -5,8 +5,8 @@ use borrow.Author.Needs.{needs}
 use Rattle.pack.proofs.summarize.Statement.{statement}
 use Rattle.pack.proofs.summarize.Tie as tie
 
-twenty-in-requires : tie.Need-twenty-in-requires
-twenty-in-requires c κs = search needs
+second-in-requires : tie.Need-second-in-requires
+second-in-requires c κs = search needs
 
 second-of-requires : tie.Need-second-of-requires
 second-of-requires c κs = search needs
@@ -21,10 +21,10 @@ same-length : tie.Need-same-length
 same-length c = search needs
 
 returns : tie.Need-returns
-returns c = summarized (now (c .before .before .before .before .before .before .before .before .before .before .before .args .second)) (now (c .before .before .before .before .before .before .before .before .before .before .before .args .out)) _ _ _ (c .before .before .before .before .before .before .before .before .if1 .taken) (c .before .before .before .before .before .before .before .twenty-in .ensures) (c .before .before .before .before .before .before .second-of .ensures) (c .before .before .before .before .before .valid .ensures) _ (c .before .before .before .before .if2 .taken) (c .before .before .put .ensures)
+returns c = summarized (now (c .before .before .before .before .before .before .before .before .before .before .before .args .second)) (now (c .before .before .before .before .before .before .before .before .before .before .before .args .out)) _ _ _ (c .before .before .before .before .before .before .before .before .if1 .taken) (c .before .before .before .before .before .before .before .second-in .ensures) (c .before .before .before .before .before .before .second-of .ensures) (c .before .before .before .before .before .valid .ensures) _ (c .before .before .before .before .if2 .taken) (c .before .before .put .ensures)
 
 returns-2 : tie.Need-returns-2
-returns-2 c = no-second (now (c .before .before .before .before .before .before .before .args .second)) (now (c .before .before .before .before .before .before .before .args .out)) _ _ _ (c .before .before .before .before .if1 .taken) (c .before .before .before .twenty-in .ensures) (c .before .before .second-of .ensures) (c .before .valid .ensures) (c .if2 .left)
+returns-2 c = no-second (now (c .before .before .before .before .before .before .before .args .second)) (now (c .before .before .before .before .before .before .before .args .out)) _ _ _ (c .before .before .before .before .if1 .taken) (c .before .before .before .second-in .ensures) (c .before .before .second-of .ensures) (c .before .valid .ensures) (c .if2 .left)
 
 returns-3 : tie.Need-returns-3
 returns-3 c = too-short (now (c .before .before .before .args .second)) (now (c .before .before .before .args .out)) (c .if1 .left)
@@ -33,7 +33,7 @@ pub summarize-spec : {M : Type 1} → statement M
 summarize-spec =
     tie.close
     (tie.spec
-    twenty-in-requires
+    second-in-requires
     second-of-requires
     valid-requires
     put-requires

@@ -4,6 +4,12 @@ use borrow.Author.Needs.{needs}
 use Rattle.place.proofs.filters_at.Statement.{statement}
 use Rattle.place.proofs.filters_at.Tie as tie
 
+bei-of-requires : tie.Need-bei-of-requires
+bei-of-requires c κs = search needs
+
+is-mark-requires : tie.Need-is-mark-requires
+is-mark-requires c κs = search needs
+
 sub-filter-at : tie.Need-sub-filter-at
 sub-filter-at c = search needs
 
@@ -45,16 +51,20 @@ same-length c = search needs
 
 returns : tie.Need-returns
 returns c =
-    let a = c .before .before .before .before .before .before .before .before .before .before .before .before .before .before in
-    let x = c .before .before .before .before .before .before .before .before .before .before .before .filter-at .ensures in
-    let y = c .before .before .before .before .before .before .before .filter-at2 .ensures in
+    let k = c .before .before .before .before .before .before .before .before .before .before in
+    let m = k .before .before in
+    let a = m .before .before .before in
+    let x = k .filter-at .ensures in
+    let y = c .before .before .before .before .before .before .filter-at2 .ensures in
     let z = c .before .before .filter-at3 .ensures in
-    filters-is (now (a .args .w)) _ _ _ _ _ _ (a .args .ssf) (a .args .tim) (a .args .f) (a .pre) x y z
+    filters-is (now (a .args .w)) _ _ _ _ _ _ _ _ (a .args .ssf) (a .args .tim) (a .args .f) (a .pre) (m .before .bei-of .ensures) (m .is-mark .ensures) x y z
 
 pub filters-at-spec : {M : Type 1} → statement M
 filters-at-spec =
     tie.close
     (tie.spec
+    bei-of-requires
+    is-mark-requires
     sub-filter-at
     part-filter-at-start
     part-filter-at-end

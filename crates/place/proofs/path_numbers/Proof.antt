@@ -4,8 +4,14 @@ use borrow.Author.Needs.{needs}
 use Rattle.place.proofs.path_numbers.Statement.{statement}
 use Rattle.place.proofs.path_numbers.Tie as tie
 
-far-block-requires : tie.Need-far-block-requires
-far-block-requires c κs = search needs
+path-bei-requires : tie.Need-path-bei-requires
+path-bei-requires c κs = search needs
+
+is-far-requires : tie.Need-is-far-requires
+is-far-requires c κs = search needs
+
+counted-requires : tie.Need-counted-requires
+counted-requires c κs = search needs
 
 sub-filter-at : tie.Need-sub-filter-at
 sub-filter-at c = search needs
@@ -60,15 +66,19 @@ same-length c = search needs
 
 returns : tie.Need-returns
 returns c =
-    let a = c .before .before .before .before .before .before .before .before .before .before .before .before .before .before .before .before .before .before in
-    let d = c .before .before .before .before .before .before .before .before .before .before .before .before .before .before .filter-at .ensures in
-    path-numbers-is (now (a .args .w)) _ _ _ _ _ (a .args .t) _ (a .args .forget) (a .args .stops) (a .args .tim) (a .args .f) (a .args .pm) (a .pre) (c .before .before .before .before .before .before .before .before .before .before .before .before .before .before .before .before .far-block .ensures) d (c .before .before .before .before .before .before .before .before .before .before .lay-stat .ensures) (c .before .before .before .before .before .before .flags-at .ensures) (c .before .before .counts-at .ensures)
+    let k = c .before .before .before .before .before .before .before .before .before .before in
+    let g = k .before .before .before .before in
+    let r = g .before .before in
+    let a = r .before .before .before .before in
+    path-numbers-is (now (a .args .w)) _ _ _ _ _ (a .args .t) _ _ (a .args .forget) (a .args .stops) (a .args .tim) (a .args .f) _ (a .args .pm) (a .pre) (r .before .before .path-bei .ensures) (r .before .is-far .ensures) (r .counted .ensures) (g .filter-at .ensures) (k .lay-stat .ensures) (c .before .before .before .before .before .before .flags-at .ensures) (c .before .before .counts-at .ensures)
 
 pub path-numbers-spec : {M : Type 1} → statement M
 path-numbers-spec =
     tie.close
     (tie.spec
-    far-block-requires
+    path-bei-requires
+    is-far-requires
+    counted-requires
     sub-filter-at
     part-filter-at-start
     part-filter-at-end

@@ -4,8 +4,14 @@ use borrow.Author.Needs.{needs}
 use Rattle.place.proofs.section_numbers.Statement.{statement}
 use Rattle.place.proofs.section_numbers.Tie as tie
 
-far-block-requires : tie.Need-far-block-requires
-far-block-requires c κs = search needs
+bei-of-requires : tie.Need-bei-of-requires
+bei-of-requires c κs = search needs
+
+is-far-requires : tie.Need-is-far-requires
+is-far-requires c κs = search needs
+
+counted-requires : tie.Need-counted-requires
+counted-requires c κs = search needs
 
 sub-filters-at : tie.Need-sub-filters-at
 sub-filters-at c = search needs
@@ -48,15 +54,19 @@ same-length c = search needs
 
 returns : tie.Need-returns
 returns c =
-    let a = c .before .before .before .before .before .before .before .before .before .before .before .before .before .before in
-    let d = c .before .before .before .before .before .before .before .before .before .before .filters-at .ensures in
-    section-numbers-is (now (a .args .w)) _ _ _ _ _ (a .args .ssf) (a .args .tim) (a .args .f) (a .args .sm) (a .pre) (c .before .before .before .before .before .before .before .before .before .before .before .before .far-block .ensures) (d .0) (d .1) (c .before .before .before .before .before .before .flags-at .ensures) (c .before .before .counts-at .ensures)
+    let k = c .before .before .before .before .before .before .before .before .before .before in
+    let r = k .before .before in
+    let a = r .before .before .before .before in
+    let d = k .filters-at .ensures in
+    section-numbers-is (now (a .args .w)) _ _ _ _ _ _ (a .args .ssf) (a .args .tim) (a .args .f) _ (a .args .sm) (a .pre) (r .before .before .bei-of .ensures) (r .before .is-far .ensures) (r .counted .ensures) (d .0) (d .1) (c .before .before .before .before .before .before .flags-at .ensures) (c .before .before .counts-at .ensures)
 
 pub section-numbers-spec : {M : Type 1} → statement M
 section-numbers-spec =
     tie.close
     (tie.spec
-    far-block-requires
+    bei-of-requires
+    is-far-requires
+    counted-requires
     sub-filters-at
     part-filters-at-start
     part-filters-at-end

@@ -4,8 +4,17 @@ use borrow.Author.Needs.{needs}
 use Rattle.rack.proofs.level_numbers.Statement.{statement}
 use Rattle.rack.proofs.level_numbers.Tie as tie
 
-far-block-requires : tie.Need-far-block-requires
-far-block-requires c κs = search needs
+bei-of-requires : tie.Need-bei-of-requires
+bei-of-requires c κs = search needs
+
+is-far-requires : tie.Need-is-far-requires
+is-far-requires c κs = search needs
+
+is-mark-requires : tie.Need-is-mark-requires
+is-mark-requires c κs = search needs
+
+counted-requires : tie.Need-counted-requires
+counted-requires c κs = search needs
 
 sub-filter-at : tie.Need-sub-filter-at
 sub-filter-at c = search needs
@@ -73,19 +82,21 @@ same-length c = search needs
 returns : tie.Need-returns
 returns c =
     let k = c .before .before .before .before .before .before .before .before .before .before in
-    let g = k .before .before .before .before .before .before .before .before .before in
-    let a = g .before .before .before .before in
-    let d = g .filter-at .ensures in
-    let e = k .before .before .before .before .filter-at2 .ensures in
-    level-numbers-is (now (a .args .w)) _ _ _ _ _ _ _ (a .args .t) _ (a .args .forget) (a .args .stops) (a .args .tim) (a .args .iae) (a .args .f)
-    (a .args .violations) (a .pre) (g .before .before .far-block .ensures)
-    d e (k .lay-stat .ensures) (c .before .before .before .before .before .before .flags-at .ensures) (c .before .before .counts-at .ensures)
+    let g = k .before .before .before .before .before .before .before .before in
+    let r = g .before .before in
+    let a = r .before .before .before .before .before in
+    level-numbers-is (now (a .args .w)) _ _ _ _ _ _ _ (a .args .t) _ _ _ (a .args .forget) (a .args .stops) (a .args .tim) (a .args .iae) (a .args .f)
+    _ (a .args .violations) (a .pre) (r .before .before .before .bei-of .ensures) (r .before .before .is-far .ensures) (r .before .is-mark .ensures) (r .counted .ensures)
+    (g .filter-at .ensures) (k .before .before .before .before .filter-at2 .ensures) (k .lay-stat .ensures) (c .before .before .before .before .before .before .flags-at .ensures) (c .before .before .counts-at .ensures)
 
 pub level-numbers-spec : {M : Type 1} → statement M
 level-numbers-spec =
     tie.close
     (tie.spec
-    far-block-requires
+    bei-of-requires
+    is-far-requires
+    is-mark-requires
+    counted-requires
     sub-filter-at
     part-filter-at-start
     part-filter-at-end

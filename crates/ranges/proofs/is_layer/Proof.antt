@@ -51,13 +51,29 @@ array-read-word-of-12 c = search needs
 word-of-requires-3 : tie.Need-word-of-requires-3
 word-of-requires-3 c κs = search needs
 
+array-read-word-of-13 : tie.Need-array-read-word-of-13
+array-read-word-of-13 c = search needs
+
+array-read-word-of-14 : tie.Need-array-read-word-of-14
+array-read-word-of-14 c = search needs
+
+array-read-word-of-15 : tie.Need-array-read-word-of-15
+array-read-word-of-15 c = search needs
+
+array-read-word-of-16 : tie.Need-array-read-word-of-16
+array-read-word-of-16 c = search needs
+
+word-of-requires-4 : tie.Need-word-of-requires-4
+word-of-requires-4 c κs = search needs
+
 array-read-result : tie.Need-array-read-result
 array-read-result c = search needs
 
 returns : tie.Need-returns
 unfolding layerRangedBy
 returns c =
-    simp (← c .before .before .before .is-below .ensures, ← c .before .before .word-of .ensures, ← c .before .word-of2 .ensures, ← c .word-of3 .ensures)
+    let p = c .before .before .before in
+    simp (← p .before .is-below .ensures, ← p .word-of .ensures, ← c .before .before .word-of2 .ensures, ← c .before .word-of3 .ensures, ← c .word-of4 .ensures)
 
 pub is-layer-spec : {M : Type 1} → statement M
 is-layer-spec =
@@ -79,5 +95,10 @@ is-layer-spec =
     array-read-word-of-11
     array-read-word-of-12
     word-of-requires-3
+    array-read-word-of-13
+    array-read-word-of-14
+    array-read-word-of-15
+    array-read-word-of-16
+    word-of-requires-4
     array-read-result
     returns)

@@ -5,7 +5,7 @@ use Rattle.reading.proofs.text_buffer.Statement.{statement}
 use Rattle.reading.proofs.text_buffer.Tie as tie
 
 returns : tie.Need-returns
-returns c = sym (length-replicate {A = ℕ} 1048576 0)
+returns c = sym (length-replicate {A = ℕ} 1126400 0)
 
 pub text-buffer-spec : {M : Type 1} → statement M
 text-buffer-spec = tie.close (tie.spec returns)

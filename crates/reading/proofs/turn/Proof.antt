@@ -69,7 +69,7 @@ returns c =
     let o = c .before .before .before .before .before .wide2 .ensures in
     let z = going-end (a .from) (now (a .s)) (now (a .out)) (l .out) (l .at) (l .put) (l .state) (l .frames) (l .bins) (l .inv) (r .result) (r .ensures) (h .result .refusal) (r .result .at) (halts (a .from) (now (a .s)) (now (a .out)) (l .out) (l .at) (l .put) (l .state) (l .frames) (l .bins) (l .inv) (r .result) (r .ensures) (h .result) (h .ensures) (c .before .before .before .before .before .before .before .if1 .taken)) in
     let g : Gathered = record { reading = record { tell = a .from .tell; office = a .from .office; state = r .result .state; at = a .from .at + r .result .at; frames = l .frames + r .result .frames; bins = l .bins }; used = r .result .at; put = l .put; refusal = h .result .refusal } in
-    let roomy : l .put + 1944 ≤ length (l .out) = omega (arith, l .inv .room, l .inv .inside, l .inv .long, c .before .before .before .before .before .before .before .before .before .before .before .before .before .before .before .before .before .pre .1) in
+    let roomy : l .put + 2276 ≤ length (l .out) = omega (arith, l .inv .room, l .inv .inside, l .inv .long, c .before .before .before .before .before .before .before .before .before .before .before .before .before .before .before .before .before .pre .1) in
     let y = ending-put (l .out) (l .put) (x .result) (x .last .1 .1 .1 .1 .1 .1 .1 .0) _ roomy (x .ensures .0) (x .ensures .1) in
     rw (e, o) (turned (a .from) (now (a .s)) (a .ended) (now (a .out)) (l .out) (z .1) g (z .0) (m .result) (m .ensures) (x .result) (x .last .1 .1 .1 .1 .1 .1 .1 .0) (rw (e, o) at (y .0)) (rw (e, o) at (y .1)))
 

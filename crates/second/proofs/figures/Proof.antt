@@ -1,6 +1,9 @@
 use borrow.Author.Needs.{needs}
 use Rattle.second.proofs.figures.Statement.{statement}
 use Rattle.second.proofs.figures.Tie as tie
+use Rattle.second.proofs.figures.Reads as reads
+use Rattle.second.proofs.figures.Lts as lts
+use Rattle.second.proofs.flag_of.Reads as flag-of-reads
 
 array-read-t8 : tie.Need-array-read-t8
 array-read-t8 c = search needs

@@ -15,10 +15,10 @@ use Rattle.slot.proofs.are_ranged.Statement.{statement}
 use Rattle.slot.proofs.are_ranged.Tie as tie
 
 abbrev Inv-loop : tie.InvT-loop
-Inv-loop b greatest good₀ i₀ good i = (i ≤ 43) × (below greatest (wordsOf 43 b) ≡ (good && below (drop i greatest) (drop i (wordsOf 43 b))))
+Inv-loop b greatest good₀ i₀ good i = (i ≤ 51) × (below greatest (wordsOf 51 b) ≡ (good && below (drop i greatest) (drop i (wordsOf 51 b))))
 
 abbrev μ-loop : tie.MeasureT-loop
-μ-loop b greatest good₀ i₀ good i = 43 - i
+μ-loop b greatest good₀ i₀ good i = 51 - i
 
 loop-holds : tie.Need-loop-holds Inv-loop μ-loop
 loop-holds c = (omega arith, refl)
@@ -66,17 +66,17 @@ loop-again : tie.Need-loop-again Inv-loop μ-loop
 loop-again c =
     let l = c .before .before .before .before .before .before .loop in
     let b = now (c .before .before .before .before .before .before .before .before .args .b) in
-    let n = length-words 43 b in
-    let s = below-step slotGreatest (wordsOf 43 b) (l .i) (omega arith) (omega arith) in
-    let w = c .word-of .ensures ∙ sym (word-of 43 b (l .i) (omega arith)) in
+    let n = length-words 51 b in
+    let s = below-step slotGreatest (wordsOf 51 b) (l .i) (omega arith) (omega arith) in
+    let w = c .word-of .ensures ∙ sym (word-of 51 b (l .i) (omega arith)) in
     (omega arith, l .inv .1 ∙ ap (λ (t : Bool). l .good && t) (rw (← w) at s) ∙ and-two (l .good) _ _)
 
 returns : tie.Need-returns Inv-loop μ-loop
 returns c =
     let l = c .before .loop in
     let b = now (c .before .before .before .args .b) in
-    let n = length-words 43 b in
-    let e = below-end slotGreatest (wordsOf 43 b) (l .i) (omega arith) (omega arith) in
+    let n = length-words 51 b in
+    let e = below-end slotGreatest (wordsOf 51 b) (l .i) (omega arith) (omega arith) in
     sym (l .inv .1 ∙ ap (λ (t : Bool). l .good && t) e ∙ and-true (l .good))
 
 pub are-ranged-spec : {M : Type 1} → statement M

@@ -18,14 +18,14 @@ returns : tie.Need-returns
 unfolding slotSound
 returns c =
     let b = now (c .before .before .before .args .b) in
-    let n : length b ≡ 172 = c .before .if1 .taken in
+    let n : length b ≡ 204 = c .before .if1 .taken in
     let f : (i : ℕ) → getD b i 0 ≤ 255 = λ i. omega (arith, c .before .before .shared-slice-known .given i) in
-    let g = rw (all-in 172 b n) at (bytes-below 172 0 b (omega arith) f) in
-    simp (eq-eqb (length b) 172 n, g, c .are-ranged .ensures)
+    let g = rw (all-in 204 b n) at (bytes-below 204 0 b (omega arith) f) in
+    simp (eq-eqb (length b) 204 n, g, c .are-ranged .ensures)
 
 returns-2 : tie.Need-returns-2
 unfolding slotSound
-returns-2 c = simp (ne-eqb (length (now (c .before .before .args .b))) 172 (c .if1 .left))
+returns-2 c = simp (ne-eqb (length (now (c .before .before .args .b))) 204 (c .if1 .left))
 
 pub is-slot-spec : {M : Type 1} → statement M
 is-slot-spec = tie.close (tie.spec are-ranged-requires returns returns-2)

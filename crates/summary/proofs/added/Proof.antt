@@ -25,21 +25,21 @@ heads-sum-requires c κs =
     let x = valid-low (a .args .a) (a .pre .0) in
     let y = valid-low (a .args .b) (a .pre .1) in (x .heads, y .heads)
 
-four-sum-requires : tie.Need-four-sum-requires
-four-sum-requires c κs =
+five-sum-requires : tie.Need-five-sum-requires
+five-sum-requires c κs =
     let a = c .before .before .before .before .before .before .before .before .before .before in
     let x = valid-low (a .args .a) (a .pre .0) in
     let y = valid-low (a .args .b) (a .pre .1) in (x .section, y .section)
 
-four-sum-requires-2 : tie.Need-four-sum-requires-2
-four-sum-requires-2 c κs =
+five-sum-requires-2 : tie.Need-five-sum-requires-2
+five-sum-requires-2 c κs =
     let a = c .before .before .before .before .before .before .before .before .before .before .before in
     let x = valid-low (a .args .a) (a .pre .0) in
     let y = valid-low (a .args .b) (a .pre .1) in (x .path, y .path)
 
 returns : tie.Need-returns
 unfolding addedOf
-returns c = rw (c .before .before .before .before .before .first-of .ensures, c .before .before .before .before .sum .ensures, c .before .before .before .sum2 .ensures, c .before .before .heads-sum .ensures, c .before .four-sum .ensures, c .four-sum2 .ensures)
+returns c = rw (c .before .before .before .before .before .first-of .ensures, c .before .before .before .before .sum .ensures, c .before .before .before .sum2 .ensures, c .before .before .heads-sum .ensures, c .before .five-sum .ensures, c .five-sum2 .ensures)
 
 pub added-spec : {M : Type 1} → statement M
 added-spec =
@@ -49,6 +49,6 @@ added-spec =
     sum-requires
     sum-requires-2
     heads-sum-requires
-    four-sum-requires
-    four-sum-requires-2
+    five-sum-requires
+    five-sum-requires-2
     returns)

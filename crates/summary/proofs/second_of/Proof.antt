@@ -6,11 +6,11 @@ use Rattle.summary.proofs.second_of.Tie as tie
 heads-in-requires : tie.Need-heads-in-requires
 heads-in-requires c κs = search needs
 
-four-in-requires : tie.Need-four-in-requires
-four-in-requires c κs = search needs
+five-in-requires : tie.Need-five-in-requires
+five-in-requires c κs = search needs
 
-four-in-requires-2 : tie.Need-four-in-requires-2
-four-in-requires-2 c κs = search needs
+five-in-requires-2 : tie.Need-five-in-requires-2
+five-in-requires-2 c κs = search needs
 
 array-read-wide : tie.Need-array-read-wide
 array-read-wide c = search needs
@@ -26,15 +26,15 @@ wide-requires-2 c κs = search needs
 
 returns : tie.Need-returns
 unfolding secondOf
-returns c = rw (c .before .before .before .before .heads-in .ensures, c .before .before .before .four-in .ensures, c .before .before .four-in2 .ensures, c .before .wide .ensures, c .wide2 .ensures)
+returns c = rw (c .before .before .before .before .heads-in .ensures, c .before .before .before .five-in .ensures, c .before .before .five-in2 .ensures, c .before .wide .ensures, c .wide2 .ensures)
 
 pub second-of-spec : {M : Type 1} → statement M
 second-of-spec =
     tie.close
     (tie.spec
     heads-in-requires
-    four-in-requires
-    four-in-requires-2
+    five-in-requires
+    five-in-requires-2
     array-read-wide
     wide-requires
     array-read-wide-2

@@ -8,14 +8,17 @@ use Rattle.summary.proofs.valid.Tie as tie
 mul-most : tie.Need-mul-most
 mul-most c = search needs
 
+mul-sums : tie.Need-mul-sums
+mul-sums c = search needs
+
 heads-good-requires : tie.Need-heads-good-requires
 heads-good-requires c κs = search needs
 
-four-good-requires : tie.Need-four-good-requires
-four-good-requires c κs = search needs
+five-good-requires : tie.Need-five-good-requires
+five-good-requires c κs = search needs
 
-four-good-requires-2 : tie.Need-four-good-requires-2
-four-good-requires-2 c κs = search needs
+five-good-requires-2 : tie.Need-five-good-requires-2
+five-good-requires-2 c κs = search needs
 
 sub-result : tie.Need-sub-result
 sub-result c = search needs
@@ -23,11 +26,11 @@ sub-result c = search needs
 returns : tie.Need-returns
 unfolding validOf
 returns c =
-    let a = c .before .before .before .before .before .before .before .before .before .before .before .before .before .before .args .s in
-    let low = c .before .before .before .before .before .before .before .before .before .before .before .before .if1 .taken in
+    let a = c .before .before .before .before .before .before .before .before .before .before .before .before .before .before .before .args .s in
+    let low = c .before .before .before .before .before .before .before .before .before .before .before .before .before .if1 .taken in
     let h = c .before .before .before .before .before .before .before .heads-good .ensures in
-    let f = c .before .before .before .before .before .before .four-good .ensures in
-    let g = c .before .before .before .before .before .four-good2 .ensures in
+    let f = c .before .before .before .before .before .before .five-good .ensures in
+    let g = c .before .before .before .before .before .five-good2 .ensures in
     rw (le-leb _ _ low, last-is (a .first) (a .length) low, h, f, g)
 
 returns-2 : tie.Need-returns-2
@@ -39,9 +42,10 @@ valid-spec =
     tie.close
     (tie.spec
     mul-most
+    mul-sums
     heads-good-requires
-    four-good-requires
-    four-good-requires-2
+    five-good-requires
+    five-good-requires-2
     sub-result
     returns
     returns-2)

@@ -13,7 +13,7 @@ use Rattle.tandem.proofs.figures_of.Statement.{statement}
 use Rattle.tandem.proofs.figures_of.Tie as tie
 
 abbrev Inv-loop : tie.InvT-loop
-Inv-loop ls out₀ i₀ out i = (i ≤ 6) × (length out ≡ length out₀) × (out ≡ over out₀ 20 (levelFigures (take i ls)))
+Inv-loop ls out₀ i₀ out i = (i ≤ 6) × (length out ≡ length out₀) × (out ≡ over out₀ 22 (levelFigures (take i ls)))
 
 abbrev μ-loop : tie.MeasureT-loop
 μ-loop ls out₀ i₀ out i = 6 - i
@@ -37,8 +37,8 @@ mul-l c = search needs
 array-copy-out-l : tie.Need-array-copy-out-l Inv-loop μ-loop
 array-copy-out-l c = search needs
 
-four-of-requires : tie.Need-four-of-requires Inv-loop μ-loop
-four-of-requires c κs = search needs
+five-of-requires : tie.Need-five-of-requires Inv-loop μ-loop
+five-of-requires c κs = search needs
 
 slice-aggregate-put-3 : tie.Need-slice-aggregate-put-3 Inv-loop μ-loop
 slice-aggregate-put-3 c = search needs
@@ -65,7 +65,7 @@ loop-again : tie.Need-loop-again Inv-loop μ-loop
 loop-again c =
     let l = c .before .before .before .before .before .before .before .loop in
     let a = c .before .before .before .before .before .before .before .before .before .before .before .before .args in
-    let f = c .before .before .before .before .four-of .ensures in
+    let f = c .before .before .before .before .five-of .ensures in
     let t = figures-turn (a .t2) (l .i) _ _ (l .out) _ _ (omega arith) (omega arith) (l .inv .2) f (c .before .put2 .ensures) in
     (omega arith, omega arith, t)
 
@@ -76,7 +76,7 @@ returns c =
     let e : l .i ≡ 6 = omega arith in
     let w : take 6 (a .t2) ≡ a .t2 = take-all 6 (a .t2) (omega arith) in
     let o = rw (e, w) at (l .inv .2) in
-    o ∙ ap (λ (x : List ℕ). over x 20 (levelFigures (a .t2))) (c .before .before .before .put .ensures)
+    o ∙ ap (λ (x : List ℕ). over x 22 (levelFigures (a .t2))) (c .before .before .before .put .ensures)
     ∙ figures-whole _ (a .t1) (a .t2) refl (omega arith) (omega arith)
 
 pub figures-of-spec : {M : Type 1} → statement M
@@ -91,7 +91,7 @@ figures-of-spec =
     loop-holds
     mul-l
     array-copy-out-l
-    four-of-requires
+    five-of-requires
     slice-aggregate-put-3
     mul-put
     add-put

@@ -13,7 +13,7 @@ use Rattle.tandem.proofs.listed_figures.Tie as tie
 
 abbrev Inv-loop : tie.InvT-loop
 Inv-loop ls figures out₀ n₀ i₀ out n i =
-    (i ≤ 6) × (n ≤ 20 + 4 * i) × (length out ≡ 44) × (n ≡ length (listedOf (take i ls) figures)) × (out ≡ over (replicate 44 0) 0 (listedOf (take i ls) figures))
+    (i ≤ 6) × (n ≤ 22 + 5 * i) × (length out ≡ 52) × (n ≡ length (listedOf (take i ls) figures)) × (out ≡ over (replicate 52 0) 0 (listedOf (take i ls) figures))
 
 abbrev μ-loop : tie.MeasureT-loop
 μ-loop ls figures out₀ n₀ i₀ out n i = 6 - i
@@ -37,8 +37,8 @@ loop-holds : tie.Need-loop-holds Inv-loop μ-loop
 unfolding givenGroups
 loop-holds c =
     let f = c .before .before .before .before .before .args .t2 in
-    let e = append-nil (take 20 f) in
-    (omega arith, omega arith, omega arith, rw e (sym (length-take-le 20 f (omega arith))), c .before .put .ensures ∙ ap (over (replicate 44 0) 0) (sym e))
+    let e = append-nil (take 22 f) in
+    (omega arith, omega arith, omega arith, rw e (sym (length-take-le 22 f (omega arith))), c .before .put .ensures ∙ ap (over (replicate 52 0) 0) (sym e))
 
 mul-given : tie.Need-mul-given Inv-loop μ-loop
 mul-given c = search needs
@@ -87,7 +87,7 @@ loop-again c =
     let l = c .before .before .before .before .before .before .loop in
     let a = c .before .before .before .before .before .before .before .before .before .before .before .before .args in
     let p = c .before .put-group .ensures in
-    let t = listed-turn (a .t1) (a .t2) (l .i) (24 + 4 * l .i - (20 + 4 * l .i)) _ (replicate 44 0) (l .out) _ (l .n) _ (omega arith) (omega arith) (omega arith) (l .inv .3) (l .inv .4) (p .0) (p .1) in
+    let t = listed-turn (a .t1) (a .t2) (l .i) (27 + 5 * l .i - (22 + 5 * l .i)) _ (replicate 52 0) (l .out) _ (l .n) _ (omega arith) (omega arith) (omega arith) (l .inv .3) (l .inv .4) (p .0) (p .1) in
     (omega arith, t .0, omega arith, t .1, t .2)
 
 returns : tie.Need-returns Inv-loop μ-loop

@@ -20,7 +20,7 @@ put-numbers-requires c κs = search needs
 returns : tie.Need-returns
 returns c =
     let a = c .before .before .before .before .args in
-    c .before .put-numbers .ensures ∙ over-all (replicate 168 0) (flat8 (a .t1)) (length-flat8 (a .t1) ∙ omega arith)
+    c .before .put-numbers .ensures ∙ over-all (replicate 184 0) (flat8 (a .t1)) (length-flat8 (a .t1) ∙ omega arith)
 
 pub bytes-of-spec : {M : Type 1} → statement M
 bytes-of-spec =

@@ -18,12 +18,12 @@ read-words-requires c κs = search needs
 returns : tie.Need-returns
 returns c =
     let a = c .before .before .before .before .before .args in
-    c .before .read-words .ensures ∙ sym (words-room 43 (a .at) (now (a .b)) (omega arith))
+    c .before .read-words .ensures ∙ sym (words-room 51 (a .at) (now (a .b)) (omega arith))
 
 returns-2 : tie.Need-returns-2
 returns-2 c =
     let a = c .before .before .args in
-    words-beyond 43 (a .at) (now (a .b)) (omega arith)
+    words-beyond 51 (a .at) (now (a .b)) (omega arith)
 
 pub figures-in-spec : {M : Type 1} → statement M
 figures-in-spec =

@@ -26,7 +26,7 @@ returns : tie.Need-returns
 unfolding flat
 returns c =
     let a = c .before .before .before .before .before .before .before .args in
-    over-two (replicate 176 0) _ _ (a .number ∷ []) (a .t2) 4 (omega arith) (omega arith) (c .before .before .before .before .before .put-word .ensures) (c .before .put-words .ensures)
+    over-two (replicate 208 0) _ _ (a .number ∷ []) (a .t2) 4 (omega arith) (omega arith) (c .before .before .before .before .before .put-word .ensures) (c .before .put-words .ensures)
 
 pub numbered-record-spec : {M : Type 1} → statement M
 numbered-record-spec =

@@ -13,10 +13,10 @@ read-numbers-requires : tie.Need-read-numbers-requires
 read-numbers-requires c κs = search needs
 
 returns : tie.Need-returns
-returns c = c .before .read-numbers .ensures ∙ sym (numbers-room 21 (now (c .before .before .before .before .before .args .b)) (omega arith))
+returns c = c .before .read-numbers .ensures ∙ sym (numbers-room 23 (now (c .before .before .before .before .before .args .b)) (omega arith))
 
 returns-2 : tie.Need-returns-2
-returns-2 c = numbers-beyond 21 (now (c .before .before .args .b)) (omega arith)
+returns-2 c = numbers-beyond 23 (now (c .before .before .args .b)) (omega arith)
 
 pub numbers-in-spec : {M : Type 1} → statement M
 numbers-in-spec =

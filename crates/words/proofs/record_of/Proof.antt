@@ -26,7 +26,7 @@ put-words-requires-2 c κs = search needs
 returns : tie.Need-returns
 returns c =
     let a = c .before .before .before .before .before .before .before .before .args in
-    over-two (replicate 176 0) _ _ (a .t1) (a .t2) 80 (omega arith) (omega arith) (c .before .before .before .before .before .put-words .ensures) (c .before .put-words2 .ensures)
+    over-two (replicate 208 0) _ _ (a .t1) (a .t2) 88 (omega arith) (omega arith) (c .before .before .before .before .before .put-words .ensures) (c .before .put-words2 .ensures)
 
 pub record-of-spec : {M : Type 1} → statement M
 record-of-spec =
