@@ -1,11 +1,13 @@
 // Frame and multiframe alignment, dLOF and dLOM. Every state is the state after the frame.
+#![tactic(auto)]
+
 ghost use Rattle.std.specs.Prelude.{◌≡◌};
 ghost use Rattle.alignment.specs.Alignment.{frames_of, framing_of, lof_of, next_of, locked_at, unlocked_at, multi_of, lom_of, align_of};
 
 use filter::up;
 
 // IF or OOF. `seen`: the last frame, met in OOF, had columns 2 to 5; `misses`: frames in a row in IF without columns 3 to 5.
-#[derive(Drop)]
+#[derive(Clone, Copy)]
 pub struct Framing {
     pub inframe: bool,
     pub seen: bool,
@@ -13,14 +15,14 @@ pub struct Framing {
 }
 
 // dLOF: frames in OOF in total, and frames in a row in IF, each N at most.
-#[derive(Drop)]
+#[derive(Clone, Copy)]
 pub struct Lof {
     pub total: u32,
     pub good: u32,
 }
 
 // IM or OOM. `number`: the local number in IM; `misses`: mismatches in a row; `previous`: the previous MFAS where `known`.
-#[derive(Drop)]
+#[derive(Clone, Copy)]
 pub struct Multi {
     pub inmulti: bool,
     pub number: u8,
@@ -30,7 +32,7 @@ pub struct Multi {
 }
 
 // `lom`: frames in a row in OOM, N at most.
-#[derive(Drop)]
+#[derive(Clone, Copy)]
 pub struct Alignment {
     pub framing: Framing,
     pub lof: Lof,

@@ -1,4 +1,6 @@
 // What every crate's definitions and proofs share, and the one step of a list of refusals.
+#![tactic(auto)]
+
 ghost use Rattle.std.specs.Prelude.{◌≡◌, cond};
 
 // A refusal's number where its test fails; where it passes, what the tests after it say.

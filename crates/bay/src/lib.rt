@@ -1,5 +1,7 @@
 // Six tandem levels in 1760 lent bytes: a strip with the flags and what is provisioned, then a record for each level. Bytes of another length are no bay,
 // and are left as they are; a level that is not provisioned is tested, and otherwise neither read nor written.
+#![tactic(auto)]
+
 ghost use Rattle.std.specs.Prelude.{◌≡◌, false, cond, ◌+◌, ◌≤◌, ◌<◌, length, set};
 ghost use Rattle.answer.specs.Over.{over};
 ghost use Rattle.codec.specs.Over.{bytes_in};

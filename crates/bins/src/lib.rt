@@ -1,4 +1,6 @@
 // The open quarter-hour and the open day of reported seconds: a second joined to both, their lines, and what is closed emptied.
+#![tactic(auto)]
+
 ghost use Rattle.std.specs.Prelude.{◌≡◌, ◌+◌, ◌≤◌, ◌<◌, length};
 ghost use Rattle.answer.specs.Over.{over};
 ghost use Rattle.listing.specs.Text.{fitted, second_room};
@@ -7,7 +9,7 @@ ghost use Rattle.bins.specs.Bins.{without_levels, bins_with, no_bins, kept_of, o
 
 use summary::Summary;
 
-#[derive(Drop)]
+#[derive(Clone, Copy)]
 pub struct Bins {
     pub quarter: Summary,
     pub day: Summary,

@@ -1,5 +1,7 @@
 // The calls of the line card's C firmware, on numbers and lent bytes: each tests, refuses, and then works part by part in the supervisor's
 // bytes, 688 of line, section and path, 1760 of six tandem levels and 204 of the pending second. include/otn.h documents them for C.
+#![tactic(auto)]
+
 ghost use Rattle.std.specs.Prelude.{◌≡◌, true, cond, [], ◌∷◌, ◌+◌, ◌≤◌, eqb, length, replicate};
 ghost use Rattle.words.specs.Words.{flat};
 ghost use Rattle.ranges.specs.Sound.{sound};
@@ -29,7 +31,7 @@ use signal::Raised;
 use supervisor::Supervisor;
 
 // A frame in line, section and path: what stands after it, the path's maintenance defects by themselves, and the multiframe, which the levels take.
-#[derive(Drop)]
+#[derive(Clone, Copy)]
 struct Layered {
     standing: Standing,
     raised: Raised,
@@ -37,7 +39,7 @@ struct Layered {
 }
 
 // Its report, and the multiframe.
-#[derive(Drop)]
+#[derive(Clone, Copy)]
 struct Reported {
     report: Report,
     multi: Multi,

@@ -1,11 +1,13 @@
 // What stands after a frame, and the actions, causes and head that follow from it.
+#![tactic(auto)]
+
 ghost use Rattle.std.specs.Prelude.{◌≡◌, cond};
 ghost use Rattle.causes.specs.Causes.{ssf_of, tim_acts, line_causes, section_actions, section_causes, path_ssf, path_down, path_actions, causes_by, path_causes, head_of, report_with, report_of, nothing_stands, no_report};
 
 use signal::Signal;
 
 // The line: alignment states, the flags TSF-P and OTUk-AIS, dLOF and dLOM.
-#[derive(Drop)]
+#[derive(Clone, Copy)]
 pub struct Line {
     pub inframe: bool,
     pub inmulti: bool,
@@ -16,7 +18,7 @@ pub struct Line {
 }
 
 // The section's defects, and whether TIMActDis keeps dTIM from acting.
-#[derive(Drop)]
+#[derive(Clone, Copy)]
 pub struct SectionStands {
     pub tim: bool,
     pub disabled: bool,
@@ -27,7 +29,7 @@ pub struct SectionStands {
 }
 
 // The path's defects: the signal is dAIS, dOCI, dLCK or none.
-#[derive(Drop)]
+#[derive(Clone, Copy)]
 pub struct PathStands {
     pub signal: Signal,
     pub tim: bool,
@@ -36,7 +38,7 @@ pub struct PathStands {
     pub deg: bool,
 }
 
-#[derive(Drop)]
+#[derive(Clone, Copy)]
 pub struct Standing {
     pub line: Line,
     pub section: SectionStands,
@@ -44,7 +46,7 @@ pub struct Standing {
 }
 
 // aTSF, aTSD, aBDI, aBIAE and aBEI of the section, with its SSF.
-#[derive(Drop)]
+#[derive(Clone, Copy)]
 pub struct SectionActions {
     pub ssf: bool,
     pub tsf: bool,
@@ -55,7 +57,7 @@ pub struct SectionActions {
 }
 
 // aTSF, aTSD, aBDI and aBEI of the path, with its SSF.
-#[derive(Drop)]
+#[derive(Clone, Copy)]
 pub struct PathActions {
     pub ssf: bool,
     pub tsf: bool,
@@ -65,14 +67,14 @@ pub struct PathActions {
 }
 
 // cLOF and cLOM.
-#[derive(Drop)]
+#[derive(Clone, Copy)]
 pub struct LineCauses {
     pub lof: bool,
     pub lom: bool,
 }
 
 // cTIM, cDEG, cBDI and cSSF of the section.
-#[derive(Drop)]
+#[derive(Clone, Copy)]
 pub struct SectionCauses {
     pub tim: bool,
     pub deg: bool,
@@ -81,7 +83,7 @@ pub struct SectionCauses {
 }
 
 // cOCI, cLCK, cTIM, cDEG, cBDI and cSSF of the path.
-#[derive(Drop)]
+#[derive(Clone, Copy)]
 pub struct PathCauses {
     pub oci: bool,
     pub lck: bool,
@@ -92,7 +94,7 @@ pub struct PathCauses {
 }
 
 // The causes of line, section and path.
-#[derive(Drop)]
+#[derive(Clone, Copy)]
 pub struct Causes {
     pub line: LineCauses,
     pub section: SectionCauses,
@@ -100,7 +102,7 @@ pub struct Causes {
 }
 
 // All that stands after a frame, its actions, its causes and its head.
-#[derive(Drop)]
+#[derive(Clone, Copy)]
 pub struct Report {
     pub standing: Standing,
     pub section: SectionActions,

@@ -1,4 +1,6 @@
 // The text of a frame at which anything changed, put into a lent buffer.
+#![tactic(auto)]
+
 ghost use Rattle.std.specs.Prelude.{◌≡◌, true, false, ◌+◌, ◌≤◌, length};
 ghost use Rattle.answer.specs.Over.{over};
 ghost use Rattle.listing.specs.Text.{fitted};
@@ -14,14 +16,14 @@ use listing::{put_number, put_start, put_text};
 use tandem::{Level, Tandem};
 
 // A layer's accepted trace: its bytes where `known`.
-#[derive(Drop)]
+#[derive(Clone, Copy)]
 pub struct Seen {
     pub known: bool,
     pub trace: [u8; 64],
 }
 
 // What stands after a frame, of the levels too, and the accepted traces.
-#[derive(Drop)]
+#[derive(Clone, Copy)]
 pub struct Shown {
     pub report: Report,
     pub levels: [LevelStands; 6],

@@ -1,4 +1,6 @@
 // Arrays in lent bytes. Each function takes any place: what does not lie within the lent bytes is read as zeros, and is not written.
+#![tactic(auto)]
+
 ghost use Rattle.std.specs.Prelude.{◌≡◌, ◌+◌, ◌≤◌, length, take, drop};
 ghost use Rattle.answer.specs.Over.{over};
 ghost use Rattle.codec.specs.Over.{bytes_in, laid, least_of, poured};

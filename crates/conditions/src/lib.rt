@@ -1,4 +1,6 @@
 // The text of the conditions that changed between two reports, and of those of a tandem level, put into a lent buffer.
+#![tactic(auto)]
+
 ghost use Rattle.std.specs.Prelude.{◌≡◌, cond, ◌++◌, ◌+◌, ◌-◌, ◌≤◌, length};
 ghost use Rattle.answer.specs.Over.{over};
 ghost use Rattle.listing.specs.Text.{fitted};

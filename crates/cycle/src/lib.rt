@@ -1,4 +1,6 @@
 // A layer's trace in its record: of the traces one byte is written, and a cycle is compared and copied only where it closes.
+#![tactic(auto)]
+
 ghost use Rattle.std.specs.Prelude.{◌≡◌, cond, ◌+◌, ◌%◌, length, set};
 ghost use Rattle.codec.specs.Over.{bytes_in, laid};
 ghost use Rattle.codec.specs.Pieces.{joined};
@@ -7,7 +9,7 @@ ghost use Rattle.layer.specs.Steps.{equal_after};
 ghost use Rattle.cycle.specs.Cycle.{cycle_bytes, cycle_step, cycle_of, traces_of, multi_by, tim_in, record_parts, layer_step, tim_after, TraceAt};
 
 // The numbers of a layer's trace: whether one is accepted, whether a cycle is being gathered, how many equal ones have ended in a row.
-#[derive(Drop)]
+#[derive(Clone, Copy)]
 pub struct Cycle {
     pub known: bool,
     pub gathering: bool,

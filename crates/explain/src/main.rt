@@ -1,5 +1,7 @@
 // Reads a trace from standard input and writes its explanation to standard output: a line for each frame at which anything changed, among the
 // lines of the listing.
+#![tactic(auto)]
+
 fn main() {
     reading::run(true, false);
 }

@@ -1,5 +1,7 @@
 // The numbers of a layer's state in lent bytes: a filter, a STAT, the flags, counts and sum of the second. Each function takes any bytes: those
 // of another length than the number's are not written.
+#![tactic(auto)]
+
 ghost use Rattle.std.specs.Prelude.{◌≡◌, ◌<◌, length, set, get_or};
 ghost use Rattle.fields.specs.Fields.{counted_by, counts_in, FilterStep, stat_laid, raised, flags_laid};
 

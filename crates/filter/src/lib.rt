@@ -1,17 +1,19 @@
 // Counters that stop at their bound, the filter of n and n, and three in a row.
+#![tactic(auto)]
+
 ghost use Rattle.std.specs.Prelude.{◌≡◌, false};
 ghost use Rattle.filter.specs.Filter.{up_of, add_of, filter_of};
 ghost use Rattle.filter.specs.Stat.{stat_of};
 
 // A filter of n and n: `run` counts the bits in a row, the last among them, that are not `on`.
-#[derive(Drop)]
+#[derive(Clone, Copy)]
 pub struct Filter {
     pub on: bool,
     pub run: u32,
 }
 
 // Three in a row: the last value and how often in a row it was met; whether a value is accepted, and which.
-#[derive(Drop)]
+#[derive(Clone, Copy)]
 pub struct Stat {
     pub value: u8,
     pub run: u32,

@@ -1,4 +1,6 @@
 // Alignment, section and path: what is kept from frame to frame, and a frame's step.
+#![tactic(auto)]
+
 ghost use Rattle.std.specs.Prelude.{◌≡◌};
 ghost use Rattle.alignment.specs.Alignment.{fresh_alignment};
 ghost use Rattle.layer.specs.Layer.{fresh_layer};
@@ -12,7 +14,7 @@ use overhead::{Field, Overhead};
 use settings::{Options, Settings};
 
 // The section: its layer, dIAE and dBIAE.
-#[derive(Drop)]
+#[derive(Clone, Copy)]
 pub struct SectionState {
     pub layer: Layer,
     pub iae: Filter,
@@ -20,14 +22,14 @@ pub struct SectionState {
 }
 
 // The path: its layer and STAT.
-#[derive(Drop)]
+#[derive(Clone, Copy)]
 pub struct PathState {
     pub layer: Layer,
     pub stat: Stat,
 }
 
 // What is kept from frame to frame.
-#[derive(Drop)]
+#[derive(Clone, Copy)]
 pub struct Layers {
     pub align: Alignment,
     pub section: SectionState,
@@ -35,19 +37,19 @@ pub struct Layers {
 }
 
 // The section, the path and all layers after a frame, with what stands there.
-#[derive(Drop)]
+#[derive(Clone, Copy)]
 pub struct SectionFrame {
     pub state: SectionState,
     pub stands: SectionStands,
 }
 
-#[derive(Drop)]
+#[derive(Clone, Copy)]
 pub struct PathFrame {
     pub state: PathState,
     pub stands: PathStands,
 }
 
-#[derive(Drop)]
+#[derive(Clone, Copy)]
 pub struct Advanced {
     pub layers: Layers,
     pub standing: Standing,

@@ -1,1 +1,3 @@
 // No code: what holds of every history.
+#![tactic(auto)]
+

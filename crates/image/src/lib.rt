@@ -1,4 +1,6 @@
 // The supervisor's image in lent bytes: the line's record, then each layer's. docs/SUPERVISOR.md has the table.
+#![tactic(auto)]
+
 ghost use Rattle.std.specs.Prelude.{◌≡◌, ◌≤◌};
 ghost use Rattle.codec.specs.Pieces.{lays};
 ghost use Rattle.image.specs.Image.{counts_of, line_pieces, section_held, path_held, held_with, TracesLaid, HeldLaid, Stored};

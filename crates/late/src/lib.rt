@@ -1,4 +1,6 @@
 // The supervisor with its pending second, by value: a mark reports the second closed before it, discarded also by what stood in the one that it closes.
+#![tactic(auto)]
+
 ghost use Rattle.std.specs.Prelude.{◌≡◌, cond, ◌∷◌, map, ◌+◌, ◌≤◌, length, take, drop};
 ghost use Rattle.answer.specs.Over.{over};
 ghost use Rattle.late.specs.Late.{fresh_late, level_erred, void_five, voided, pending_of, late_marked};
@@ -7,21 +9,21 @@ use tandem::{Level, Tandem};
 
 // The supervisor with levels, and the figures of the second that was closed last, behind its number: frames, ten heads, the section's five, the path's five,
 // five of each level.
-#[derive(Drop)]
+#[derive(Clone, Copy)]
 pub struct Late {
     pub tandem: Tandem,
     pub pending: [u32; 51],
 }
 
 // pIAE and pBIAE of a layer's second: whether dIAE and dBIAE stood in some frame of it.
-#[derive(Drop)]
+#[derive(Clone, Copy)]
 pub struct Erred {
     pub iae: bool,
     pub biae: bool,
 }
 
 // `refusal` as in `TandemMarked`; where a second is `told`, its figures.
-#[derive(Drop)]
+#[derive(Clone, Copy)]
 pub struct LateMarked {
     pub refusal: u8,
     pub told: bool,
@@ -30,7 +32,7 @@ pub struct LateMarked {
 }
 
 // Where a second is pending, it is `told`, and its figures.
-#[derive(Drop)]
+#[derive(Clone, Copy)]
 pub struct PendingSecond {
     pub told: bool,
     pub figures: [u32; 52],

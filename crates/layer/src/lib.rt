@@ -1,4 +1,6 @@
 // One layer's state: what section and path share.
+#![tactic(auto)]
+
 ghost use Rattle.std.specs.Prelude.{◌≡◌, cond};
 ghost use Rattle.layer.specs.Layer.{layer_of, tim_of};
 ghost use Rattle.layer.specs.Steps.{put_in, equal_after};
@@ -7,7 +9,7 @@ use filter::Filter;
 
 // `accepted` is the accepted trace where `known`; `gathered` the cycle being gathered where `gathering`; `previous` the last whole
 // cycle, `equal` how many equal ones in a row, 3 at most.
-#[derive(Drop)]
+#[derive(Clone, Copy)]
 pub struct Layer {
     pub accepted: [u8; 64],
     pub gathered: [u8; 64],

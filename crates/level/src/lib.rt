@@ -1,5 +1,7 @@
 // One tandem level: what its accepted STAT stands for, a frame, actions and causes, its second and a mark. It has no number: a level is handed
 // its own three bytes.
+#![tactic(auto)]
+
 ghost use Rattle.std.specs.Prelude.{◌≡◌};
 ghost use Rattle.level.specs.Status.{status_of, status_for, raises_of};
 ghost use Rattle.level.specs.Level.{stands_by, level_stands, level_frame, level_down, level_actions, level_causes, level_shows, level_count, level_closed, level_marked, fresh_level, fresh_level_second};
@@ -12,7 +14,7 @@ use second::{Blocks, Far, Near, Shows, Sum};
 use settings::Options;
 
 // What an accepted STAT stands for.
-#[derive(Drop)]
+#[derive(Clone, Copy)]
 pub enum Status {
     Clear,
     Ltc,
@@ -23,7 +25,7 @@ pub enum Status {
 }
 
 // What a status raises: dLTC, dLCK, dOCI and dAIS; and dIAE where dTIM does not stand.
-#[derive(Drop)]
+#[derive(Clone, Copy)]
 pub struct Raises {
     pub ltc: bool,
     pub iae: bool,
@@ -33,7 +35,7 @@ pub struct Raises {
 }
 
 // What is kept from frame to frame: the layer, STAT and dBIAE.
-#[derive(Drop)]
+#[derive(Clone, Copy)]
 pub struct LevelState {
     pub layer: Layer,
     pub stat: Stat,
@@ -41,7 +43,7 @@ pub struct LevelState {
 }
 
 // The defects of a level, with its SSF, and whether TIMActDis keeps dTIM from acting.
-#[derive(Drop)]
+#[derive(Clone, Copy)]
 pub struct LevelStands {
     pub ssf: bool,
     pub status: Status,
@@ -54,21 +56,21 @@ pub struct LevelStands {
 }
 
 // The level after a frame, with what stands there.
-#[derive(Drop)]
+#[derive(Clone, Copy)]
 pub struct LevelFrame {
     pub state: LevelState,
     pub stands: LevelStands,
 }
 
 // aTSF and aTSD.
-#[derive(Drop)]
+#[derive(Clone, Copy)]
 pub struct LevelActions {
     pub tsf: bool,
     pub tsd: bool,
 }
 
 // cSSF, cLTC, cOCI, cLCK, cTIM, cDEG and cBDI.
-#[derive(Drop)]
+#[derive(Clone, Copy)]
 pub struct LevelCauses {
     pub ssf: bool,
     pub ltc: bool,
@@ -80,7 +82,7 @@ pub struct LevelCauses {
 }
 
 // The open second: its five values, and whether dIAE and dBIAE stood in some frame.
-#[derive(Drop)]
+#[derive(Clone, Copy)]
 pub struct LevelSecond {
     pub blocks: Blocks,
     pub iae: bool,

@@ -1,4 +1,6 @@
 // The line of a record that a scan told, from the states before and after it; of a second that it reported; and the last lines.
+#![tactic(auto)]
+
 ghost use Rattle.std.specs.Prelude.{◌≡◌, ◌+◌, ◌≤◌, ◌<◌, length};
 ghost use Rattle.answer.specs.Over.{over};
 ghost use Rattle.listing.specs.Text.{fitted, second_room, second_line};

@@ -1,4 +1,6 @@
 // The text of the listing's lines, put into a lent buffer.
+#![tactic(auto)]
+
 ghost use Rattle.std.specs.Prelude.{◌≡◌, [], ◌∷◌, ◌+◌, ◌-◌, ◌*◌, ◌≤◌, ◌<◌, length, take};
 ghost use Rattle.answer.specs.Over.{over};
 ghost use Rattle.listing.specs.Text.{decimal_of, spaced, fields_of, line_start, text_line, fitted, second_line, refusal_line, end_line, number_room, start_room, second_room, bin_room, pair_room};

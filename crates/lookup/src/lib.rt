@@ -1,4 +1,6 @@
 // The path's fault causes by lookup: eight yes-or-no inputs select a byte of a table. The equations are in `causes`.
+#![tactic(auto)]
+
 ghost use Rattle.std.specs.Prelude.{◌≡◌, ◌≤◌};
 ghost use Rattle.answer.specs.Bits.{flag};
 ghost use Rattle.causes.specs.Causes.{causes_by};

@@ -1,11 +1,13 @@
 // Traces and names compared, byte by byte.
+#![tactic(auto)]
+
 ghost use Rattle.std.specs.Prelude.{◌≡◌, ◌+◌, ◌≤◌};
 ghost use Rattle.answer.specs.Bits.{flag};
 ghost use Rattle.names.specs.Names.{same_trace, Compares};
 
 // Whether the two names of an accepted trace are the expected ones, and what was read to know it: how many of their 32 bytes were found
 // alike, and how many unlike.
-#[derive(Drop)]
+#[derive(Clone, Copy)]
 pub struct Compared {
     pub sapi: bool,
     pub dapi: bool,

@@ -1,5 +1,7 @@
 // The numbers of a supervisor as strips of 32 bytes: the line's head, alignment, and of each layer its front and its state. Small numbers
 // are bytes, counts are words. docs/SUPERVISOR.md has the table.
+#![tactic(auto)]
+
 ghost use Rattle.std.specs.Prelude.{◌≡◌};
 ghost use Rattle.numbers.specs.Numbers.{head_bytes, head_in, align_bytes, align_in, front_bytes, front_in, state_bytes, blocks_in, state_in};
 
@@ -9,14 +11,14 @@ use second::{Blocks, Far, Near, Sum};
 use words::word_of;
 
 // What neither a frame nor alignment changes at the line.
-#[derive(Drop)]
+#[derive(Clone, Copy)]
 pub struct Head {
     pub k: u8,
     pub seconds: u32,
 }
 
 // What a frame leaves as it is in a layer: its provisioning but its names, and dDEG, which a mark decides.
-#[derive(Drop)]
+#[derive(Clone, Copy)]
 pub struct Front {
     pub thr: u32,
     pub degm: u32,
@@ -27,7 +29,7 @@ pub struct Front {
 
 // What a frame changes in a layer but the bytes of its traces. `iaeseen`, `biaeseen`: whether dIAE and dBIAE stood in some frame of the
 // open second. A section's STAT, a path's dIAE and dBIAE are quiet.
-#[derive(Drop)]
+#[derive(Clone, Copy)]
 pub struct State {
     pub known: bool,
     pub gathering: bool,

@@ -1,1 +1,3 @@
 // No code: what `quarters` prints, by plain sums.
+#![tactic(auto)]
+

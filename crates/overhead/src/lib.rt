@@ -1,10 +1,12 @@
 // One frame's overhead: 64 bytes, four rows of columns 1 to 16, row after row.
+#![tactic(auto)]
+
 ghost use Rattle.std.specs.Prelude.{◌≡◌, get_or};
 ghost use Rattle.overhead.specs.Overhead.{four_of, three_of, field_of, overhead_of, level_field};
 ghost use Rattle.overhead.specs.Bei.{bei_of, path_bei, is_far, violations_of, is_biae};
 
 // The three bytes of SM, PM or a tandem level as far as they are looked at. The section looks at `iae`, path and levels at `stat`.
-#[derive(Drop)]
+#[derive(Clone, Copy)]
 pub struct Field {
     pub tti: u8,
     pub bei: u8,
@@ -14,7 +16,7 @@ pub struct Field {
 }
 
 // All that is looked at in a frame. `four`: columns 2 to 5 are framing; `three`: columns 3 to 5 are.
-#[derive(Drop)]
+#[derive(Clone, Copy)]
 pub struct Overhead {
     pub four: bool,
     pub three: bool,
@@ -107,7 +109,7 @@ pub fn level_field(bytes: &[u8], level: u8) -> Field
 }
 
 // What a BEI code says: nothing, so many violations (1 to 8), or the mark of an alignment error that the far end has met.
-#[derive(Drop)]
+#[derive(Clone, Copy)]
 pub enum Bei {
     None,
     Number(u8),

@@ -1,4 +1,6 @@
 // A summary in 184 lent bytes: a second's record becomes one, and two are joined there.
+#![tactic(auto)]
+
 ghost use Rattle.std.specs.Prelude.{◌≡◌};
 ghost use Rattle.codec.specs.Over.{poured};
 ghost use Rattle.pack.specs.Pack.{summary_bytes, SummaryCall, JoinCall};

@@ -1,4 +1,6 @@
 // A frame and a mark in a supervisor's bytes, part by part: numbers go through the functions by value. What a frame does not change is not written.
+#![tactic(auto)]
+
 ghost use Rattle.std.specs.Prelude.{◌≡◌, length};
 ghost use Rattle.codec.specs.Over.{bytes_in};
 ghost use Rattle.place.specs.Place.{section_filters, filtered_bytes, section_numbers, section_stood, section_record, SectionAt, path_bdi_at, path_numbers, path_frame, path_stood, path_record, PathAt, LineAt, tallied_in, CloseAt, opened_in};
@@ -12,21 +14,21 @@ use second::{Blocks, Far, Near, Sum};
 use signal::{Raised, Signal};
 
 // What stands at the line after a frame, and its multiframe.
-#[derive(Drop)]
+#[derive(Clone, Copy)]
 pub struct LineFrame {
     pub line: Line,
     pub multi: Multi,
 }
 
 // What stands in the path after a frame, and its maintenance defects by the number of the accepted STAT.
-#[derive(Drop)]
+#[derive(Clone, Copy)]
 pub struct PathFrame {
     pub stands: PathStands,
     pub raised: Raised,
 }
 
 // The filters of a section after a frame.
-#[derive(Drop)]
+#[derive(Clone, Copy)]
 pub struct Filtered {
     pub bdi: Filter,
     pub iae: Filter,

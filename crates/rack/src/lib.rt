@@ -1,5 +1,7 @@
 // One tandem level in its record of 288 bytes: a frame in place, and the test of its numbers' ranges. A mark is that of every record,
 // place::close_at. What a frame does not change is not written.
+#![tactic(auto)]
+
 ghost use Rattle.std.specs.Prelude.{◌≡◌, length};
 ghost use Rattle.rack.specs.Rack.{filters_in, level_numbers, level_stood, level_record, LevelAt, level_greatest, level_sound};
 
@@ -9,7 +11,7 @@ use level::{LevelStands, Status};
 use overhead::Field;
 
 // The filters of a level after a frame.
-#[derive(Drop)]
+#[derive(Clone, Copy)]
 pub struct Filters {
     pub bdi: Filter,
     pub biae: Filter,

@@ -1,4 +1,6 @@
 // The test of refusal 17: the length of lent bytes, and each number within its range. docs/SUPERVISOR.md has the table.
+#![tactic(auto)]
+
 ghost use Rattle.std.specs.Prelude.{◌≡◌, length};
 ghost use Rattle.codec.specs.Over.{bytes_in};
 ghost use Rattle.words.specs.Words.{words_in};

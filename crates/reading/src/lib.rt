@@ -1,5 +1,7 @@
 // Reads a trace from standard input through a buffer of 4,096 bytes and writes what it tells to standard output: the lines of its seconds, or for the network
 // office those of its quarter-hours and days; and where every record is told a line for each frame at which anything changed.
+#![tactic(auto)]
+
 ghost use Rattle.std.specs.Prelude.{◌≡◌, ◌+◌, ◌≤◌, ◌<◌, length, take, drop};
 ghost use Rattle.stream.specs.Stream.{goes_on};
 ghost use Rattle.answer.specs.Over.{over};
@@ -11,7 +13,7 @@ use trace::{State, Stop};
 
 // Where the reading stands between two pieces: whether every record is told, and whether it is for the office; the scan's state, the offset of the next record, the
 // frames accepted, and the open quarter-hour and day.
-#[derive(Drop)]
+#[derive(Clone, Copy)]
 struct Reading {
     tell: bool,
     office: bool,
@@ -22,7 +24,7 @@ struct Reading {
 }
 
 // What the stop of a run says: whether it ends the turn, whether a record was told (or else a second reported), and the refusal (0: none).
-#[derive(Drop)]
+#[derive(Clone, Copy)]
 struct Halt {
     ends: bool,
     told: bool,
@@ -30,7 +32,7 @@ struct Halt {
 }
 
 // A turn: where the reading stands, the bytes used, the bytes to be written, and whether the output is whole with them.
-#[derive(Drop)]
+#[derive(Clone, Copy)]
 struct Turned {
     reading: Reading,
     used: usize,
@@ -39,7 +41,7 @@ struct Turned {
 }
 
 // A refill: where the reading stands, how many bytes at the buffer's start are kept, and whether the program ends.
-#[derive(Drop)]
+#[derive(Clone, Copy)]
 struct Refilled {
     reading: Reading,
     held: usize,

@@ -1,11 +1,13 @@
 // One record of a trace: what stands at a position of a buffer, and what a provisioning's body asks for.
+#![tactic(auto)]
+
 ghost use Rattle.std.specs.Prelude.{◌≡◌, ◌<◌, get_or};
 ghost use Rattle.record.specs.Record.{record_at, length_of, refusal_in, of_kind, frames_in, two_at, request_at, section_in, path_in, level_in};
 
 use settings::Request;
 
 // One record. A body stands after the length and the kind, four bytes from the record's start.
-#[derive(Drop)]
+#[derive(Clone, Copy)]
 pub enum Record {
     Frame,
     Mark,

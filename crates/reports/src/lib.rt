@@ -1,1 +1,3 @@
 // No code: what is reported of each second, said by the calls alone.
+#![tactic(auto)]
+

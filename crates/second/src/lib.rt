@@ -1,4 +1,6 @@
 // The open second: blocks, DS, frames and the ten heads.
+#![tactic(auto)]
+
 ghost use Rattle.std.specs.Prelude.{◌≡◌};
 ghost use Rattle.second.specs.Second.{near_of, far_of, sum_of, counted_of, one_frame, blocks_of, one_under, count_of, discard_of, closed_of, figures_of, fresh_second};
 ghost use Rattle.answer.specs.Bits.{flag};
@@ -8,20 +10,20 @@ use filter::up;
 use overhead::{Bei, Overhead};
 
 // Near-end errored blocks, far-end errored blocks, far-end violations and frames: four counters that can't be added to one another.
-#[derive(Drop)]
+#[derive(Clone, Copy)]
 pub struct Near(pub u32);
 
-#[derive(Drop)]
+#[derive(Clone, Copy)]
 pub struct Far(pub u32);
 
-#[derive(Drop)]
+#[derive(Clone, Copy)]
 pub struct Sum(pub u32);
 
-#[derive(Drop)]
+#[derive(Clone, Copy)]
 pub struct Frames(pub u32);
 
 // A layer's five values of a second: near-end and far-end blocks, near and far DS, the sum of far-end violations.
-#[derive(Drop)]
+#[derive(Clone, Copy)]
 pub struct Blocks {
     pub near: Near,
     pub far: Far,
@@ -31,7 +33,7 @@ pub struct Blocks {
 }
 
 // `heads`: frames under each head; `iae`, `biae`: whether section dIAE and dBIAE stood in some frame.
-#[derive(Drop)]
+#[derive(Clone, Copy)]
 pub struct Second {
     pub frames: Frames,
     pub heads: [u32; 10],
@@ -42,7 +44,7 @@ pub struct Second {
 }
 
 // What a frame adds to a layer's values; `far` is its BEI reading.
-#[derive(Drop)]
+#[derive(Clone, Copy)]
 pub struct Shows {
     pub stopped: bool,
     pub near: bool,

@@ -1,11 +1,13 @@
 // Provisioning: what is asked for, the refusals 5 to 10, and what is kept.
+#![tactic(auto)]
+
 ghost use Rattle.std.specs.Prelude.{◌≡◌};
 ghost use Rattle.settings.specs.Settings.{ceiling_of, thr_good, degm_good, settings_refusal, disabled_of, options_of};
 
 use answer::checked;
 
 // What is asked for one layer: DEGThr, DEGM, trace mode, TIMActDis byte.
-#[derive(Drop)]
+#[derive(Clone, Copy)]
 pub struct Request {
     pub thr: u32,
     pub degm: u8,
@@ -14,7 +16,7 @@ pub struct Request {
 }
 
 // What is kept of it, with the expected names.
-#[derive(Drop)]
+#[derive(Clone, Copy)]
 pub struct Options {
     pub thr: u32,
     pub degm: u32,
@@ -23,7 +25,7 @@ pub struct Options {
     pub names: [u8; 32],
 }
 
-#[derive(Drop)]
+#[derive(Clone, Copy)]
 pub struct Settings {
     pub k: u8,
     pub section: Options,

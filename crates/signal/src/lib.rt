@@ -1,11 +1,13 @@
 // What an accepted STAT stands for, and the defects that it raises.
+#![tactic(auto)]
+
 ghost use Rattle.std.specs.Prelude.{◌≡◌, eqb};
 ghost use Rattle.signal.specs.Signal.{signal_of, stands_for, code_of, raised_of};
 
 use filter::Stat;
 
 // The path's maintenance defects.
-#[derive(Drop)]
+#[derive(Clone, Copy)]
 pub struct Raised {
     pub ais: bool,
     pub oci: bool,
@@ -13,7 +15,7 @@ pub struct Raised {
 }
 
 // What an accepted STAT stands for.
-#[derive(Drop)]
+#[derive(Clone, Copy)]
 pub enum Signal {
     Clear,
     Lck,

@@ -1,4 +1,6 @@
 // The pending second in 204 lent bytes: the test of refusal 17.
+#![tactic(auto)]
+
 ghost use Rattle.std.specs.Prelude.{◌≡◌, length};
 ghost use Rattle.words.specs.Words.{words_of};
 ghost use Rattle.slot.specs.Slot.{figures_ranged, slot_sound};

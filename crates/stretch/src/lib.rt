@@ -1,1 +1,3 @@
 // No code: the summaries of stretches of a history.
+#![tactic(auto)]
+

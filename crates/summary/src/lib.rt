@@ -1,11 +1,13 @@
 // A stretch of reported seconds in one record: counts, heads and sums added up, DS as seconds with DS; and two stretches joined.
+#![tactic(auto)]
+
 ghost use Rattle.std.specs.Prelude.{◌≡◌, true, cond, ◌+◌, ◌≤◌, ◌<◌, eqb, get_or};
 ghost use Rattle.summary.specs.Summary.{five_good, heads_good, valid_of, FiveLow, HeadsLow, five_sum, heads_sum, added_of, place_refusal, empty_summary, refused_with, join_of, five_in, heads_in, second_of, numbers_of, summary_by};
 
 use answer::checked;
 
 // A layer's five of a stretch: near-end and far-end errored blocks, seconds with near DS and seconds with far DS, and the sum of the far end's violations.
-#[derive(Drop)]
+#[derive(Clone, Copy)]
 pub struct Five {
     pub near: u64,
     pub far: u64,
@@ -15,7 +17,7 @@ pub struct Five {
 }
 
 // `first` is the number of its first second, 0 where it is empty; `length` is how many seconds it has.
-#[derive(Drop)]
+#[derive(Clone, Copy)]
 pub struct Summary {
     pub first: u64,
     pub length: u64,
@@ -26,7 +28,7 @@ pub struct Summary {
 }
 
 // `refusal` is 0 where the two are joined, and then `summary` is of both.
-#[derive(Drop)]
+#[derive(Clone, Copy)]
 pub struct Joined {
     pub refusal: u8,
     pub summary: Summary,

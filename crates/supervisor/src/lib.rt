@@ -1,4 +1,6 @@
 // The supervisor of one OTUk and the ODUk path in it: provisioning, step, mark, and reading an accepted trace, by value.
+#![tactic(auto)]
+
 ghost use Rattle.std.specs.Prelude.{◌≡◌, length};
 ghost use Rattle.frame.specs.Layers.{degraded};
 ghost use Rattle.supervisor.specs.Supervisor.{fresh_of, blank_options, blank_supervisor, provision_of, step_refusal, step_of, mark_of, layer_at, traced_of};
@@ -11,7 +13,7 @@ use second::Second;
 use settings::{Options, Request, Settings};
 
 // `seconds`: the seconds closed.
-#[derive(Drop)]
+#[derive(Clone, Copy)]
 pub struct Supervisor {
     pub settings: Settings,
     pub layers: Layers,
@@ -21,27 +23,27 @@ pub struct Supervisor {
 
 // The answers: `refusal` is document 01's number, 0 where the call is accepted. A refusal hands the supervisor back as it was,
 // with an empty report, empty figures, an empty trace.
-#[derive(Drop)]
+#[derive(Clone, Copy)]
 pub struct Provisioned {
     pub refusal: u8,
     pub supervisor: Supervisor,
 }
 
-#[derive(Drop)]
+#[derive(Clone, Copy)]
 pub struct Stepped {
     pub refusal: u8,
     pub report: Report,
     pub supervisor: Supervisor,
 }
 
-#[derive(Drop)]
+#[derive(Clone, Copy)]
 pub struct Marked {
     pub refusal: u8,
     pub figures: [u32; 22],
     pub supervisor: Supervisor,
 }
 
-#[derive(Drop)]
+#[derive(Clone, Copy)]
 pub struct Traced {
     pub refusal: u8,
     pub trace: [u8; 64],

@@ -1,4 +1,6 @@
 // The supervisor with six tandem levels: provisioning, step, mark, a level's report and its accepted trace, by value.
+#![tactic(auto)]
+
 ghost use Rattle.std.specs.Prelude.{◌≡◌, cond, [], ◌++◌, ◌+◌, ◌≤◌, length};
 ghost use Rattle.answer.specs.Over.{over};
 ghost use Rattle.tandem.specs.Levels.{given_level, blank_level, stepped_level, marked_level, five_of, framed_levels, marked_levels, level_figures, listed_of, listed_in, level_at, free_at, placed_at, low_to};
@@ -13,7 +15,7 @@ use settings::{Options, Request};
 use supervisor::{Supervisor, Traced};
 
 // A level: whether it is provisioned, and what is kept of it.
-#[derive(Drop)]
+#[derive(Clone, Copy)]
 pub struct Level {
     pub given: bool,
     pub options: Options,
@@ -22,7 +24,7 @@ pub struct Level {
 }
 
 // The supervisor of line, section and path, the flags of the last accepted frame, and levels 1 to 6.
-#[derive(Drop)]
+#[derive(Clone, Copy)]
 pub struct Tandem {
     pub base: Supervisor,
     pub flags: u8,
@@ -30,14 +32,14 @@ pub struct Tandem {
 }
 
 // The answers: `refusal` is the number of documents 01 and 02, 0 where the call is accepted. A refusal hands the supervisor back as it was.
-#[derive(Drop)]
+#[derive(Clone, Copy)]
 pub struct Given {
     pub refusal: u8,
     pub tandem: Tandem,
 }
 
 // `stands` is what stands of levels 1 to 6 after the frame.
-#[derive(Drop)]
+#[derive(Clone, Copy)]
 pub struct TandemStepped {
     pub refusal: u8,
     pub report: Report,
@@ -46,7 +48,7 @@ pub struct TandemStepped {
 }
 
 // The twenty-two figures of line, section and path, then five for each level.
-#[derive(Drop)]
+#[derive(Clone, Copy)]
 pub struct TandemMarked {
     pub refusal: u8,
     pub figures: [u32; 52],
@@ -54,13 +56,13 @@ pub struct TandemMarked {
 }
 
 // The figures of an S line: the first n of 52, zeros behind them.
-#[derive(Drop)]
+#[derive(Clone, Copy)]
 pub struct Listed {
     pub figures: [u32; 52],
     pub n: usize,
 }
 
-#[derive(Drop)]
+#[derive(Clone, Copy)]
 pub struct LevelReport {
     pub refusal: u8,
     pub given: bool,

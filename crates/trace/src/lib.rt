@@ -1,4 +1,6 @@
 // The records of a trace taken in a state, and the scan of a buffer's records.
+#![tactic(auto)]
+
 ghost use Rattle.std.specs.Prelude.{◌≡◌, ◌≤◌, length, drop};
 ghost use Rattle.record.specs.Record.{Within, body_of};
 ghost use Rattle.trace.specs.Scan.{start_of, refused_of, answered_of, stepped_of, framed_of, counts_in, marked_of, provisioned_of, given_of, applied_of, run_of};
@@ -10,7 +12,7 @@ use record::Record;
 
 // What a scan carries: whether a provisioning was met, the kind of the frames accepted (0: none was), the supervisor since with its pending
 // second, the figures that the last mark gave, and what stands of line, section and path and of levels 1 to 6 after the last frame.
-#[derive(Drop)]
+#[derive(Clone, Copy)]
 pub struct State {
     pub begun: bool,
     pub kind: u8,
@@ -21,7 +23,7 @@ pub struct State {
 }
 
 // One record taken: its refusal, 0 where it was accepted; whether a second was reported with it; the state after it.
-#[derive(Drop)]
+#[derive(Clone, Copy)]
 pub struct Taken {
     pub refusal: u8,
     pub told: bool,
@@ -30,7 +32,7 @@ pub struct Taken {
 
 // Why a run over a buffer's records stops: none is left, a second was reported, a record was taken and each is told, a record at an offset was
 // refused.
-#[derive(Drop)]
+#[derive(Clone, Copy)]
 pub enum Stop {
     More,
     Reported,
@@ -39,7 +41,7 @@ pub enum Stop {
 }
 
 // Where and why a run stopped, the frames accepted in it, and the state there.
-#[derive(Drop)]
+#[derive(Clone, Copy)]
 pub struct Run {
     pub at: usize,
     pub frames: usize,

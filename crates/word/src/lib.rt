@@ -1,4 +1,6 @@
 // The report of a frame, and what is told of a tandem level, each as one number: its fields side by side above the low byte.
+#![tactic(auto)]
+
 ghost use Rattle.std.specs.Prelude.{◌≡◌, ◌*◌, ◌<◌, ◌≤◌};
 ghost use Rattle.answer.specs.Bits.{flag};
 ghost use Rattle.word.specs.Report.{packed, line_fields, section_fields, path_fields, section_acted, path_acted, line_caused, section_caused, path_caused, report_word};

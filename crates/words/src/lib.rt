@@ -1,5 +1,7 @@
 // Numbers in lent bytes, as little-endian words of four bytes. Each function takes any place: what does not lie within the lent bytes is
 // read as zeros, and is not written.
+#![tactic(auto)]
+
 ghost use Rattle.std.specs.Prelude.{◌≡◌, ◌∷◌, ◌++◌, ◌+◌, ◌*◌, ◌≤◌, ◌<◌, length, drop};
 ghost use Rattle.answer.specs.Over.{over};
 ghost use Rattle.codec.specs.Over.{laid};
