@@ -41,6 +41,7 @@ pub struct Alignment {
 }
 
 // N of k: 3 ms in frames.
+#[tactic(auto, unfolding(crate::specs::Alignment::frames_of))]
 pub fn frames_of(k: u8) -> u32
     ensures { result ≡ frames_of k }
 {
@@ -53,6 +54,7 @@ pub fn frames_of(k: u8) -> u32
     989
 }
 
+#[tactic(auto, unfolding(crate::specs::Alignment::framing_of))]
 fn framing_step(s: Framing, four: bool, three: bool) -> Framing
     ensures { result ≡ framing_of s four three }
 {
@@ -92,6 +94,7 @@ fn framing_step(s: Framing, four: bool, three: bool) -> Framing
     }
 }
 
+#[tactic(auto, unfolding(crate::specs::Alignment::lof_of))]
 fn lof_step(s: Lof, n: u32, inframe: bool) -> Lof
     ensures { result ≡ lof_of s n inframe }
 {
@@ -116,6 +119,7 @@ fn lof_step(s: Lof, n: u32, inframe: bool) -> Lof
 }
 
 // The number after x, modulo 256.
+#[tactic(auto, unfolding(crate::specs::Alignment::next_of))]
 fn next(x: u8) -> u8
     ensures { result ≡ next_of x }
 {
@@ -149,6 +153,7 @@ fn unlocked(known: bool, previous: u8) -> Multi
     }
 }
 
+#[tactic(auto, unfolding(crate::specs::Alignment::multi_of))]
 fn multi_step(s: Multi, inframe: bool, mfas: u8) -> Multi
     ensures { result ≡ multi_of s inframe mfas }
 {
@@ -176,6 +181,7 @@ fn multi_step(s: Multi, inframe: bool, mfas: u8) -> Multi
     unlocked(false, 0)
 }
 
+#[tactic(auto, unfolding(crate::specs::Alignment::lom_of))]
 fn lom_step(run: u32, n: u32, inmulti: bool) -> u32
     ensures { result ≡ lom_of run n inmulti }
 {
@@ -186,6 +192,7 @@ fn lom_step(run: u32, n: u32, inmulti: bool) -> u32
 }
 
 // Alignment after one more frame.
+#[tactic(auto, unfolding(crate::specs::Alignment::align_of))]
 pub fn align_step(s: Alignment, n: u32, four: bool, three: bool, mfas: u8) -> Alignment
     ensures { result ≡ align_of s n four three mfas }
 {

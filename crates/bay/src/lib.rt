@@ -20,6 +20,7 @@ use settings::Options;
 use supervisor::Traced;
 
 // Whether each byte is at most its greatest: one loop, no branch.
+#[tactic(auto, using(words::proofs::Ranges::and_true, ranges::proofs::Below::below_step, ranges::proofs::Below::below_end, ranges::proofs::Below::and_two))]
 fn is_below(greatest: [u8; 32], w: [u8; 32]) -> bool
     ensures { result ≡ below greatest w }
 {
@@ -32,6 +33,7 @@ fn is_below(greatest: [u8; 32], w: [u8; 32]) -> bool
 }
 
 // Whether a level that is not provisioned still holds a blank level's numbers, DEGThr 1 and DEGM 2: one comparison.
+#[tactic(auto, unfolding(numbers::specs::Held::held_bytes))]
 fn is_blank(r: &[u8], given: bool) -> bool
     ensures { result ≡ cond given false (same_trace (bytes_in 64 0 r.now) blank_numbers) }
 {
@@ -57,6 +59,7 @@ fn record_sound(r: &[u8], given: bool) -> bool
 }
 
 // Whether the record of each level is in its ranges.
+#[tactic(auto, unfolding(crate::specs::Bay::all_sound))]
 fn are_sound(b: &[u8]) -> bool
     requires { length b.now ≡ 1760 }
     ensures { result ≡ all_sound (records_of b.now) }
@@ -73,6 +76,7 @@ fn are_sound(b: &[u8]) -> bool
 }
 
 // Whether lent bytes are a bay: their length, the strip and each record within its ranges.
+#[tactic(auto, unfolding(crate::specs::Bay::bay_sound))]
 pub fn is_bay(b: &[u8]) -> bool
     ensures { result ≡ bay_sound b.now }
 {
@@ -135,6 +139,7 @@ fn lay_blanks(b: &mut [u8])
 }
 
 // No level provisioned, and no flags met.
+#[tactic(auto, unfolding(crate::specs::Bay::blank_bay))]
 pub fn lay_bay(b: &mut [u8])
     ensures { b.new ≡ blank_bay b.old }
 {
@@ -166,6 +171,7 @@ fn give_in(b: &mut [u8], n: usize, p: Options)
 }
 
 // Level n provisioned; nothing is done where there is no such level.
+#[tactic(auto, unfolding(crate::specs::Bay::gave_in))]
 pub fn give_at(b: &mut [u8], n: u8, p: Options)
     ensures { b.new ≡ gave_in b.old n p }
 {
@@ -211,6 +217,7 @@ fn frame_in(b: &mut [u8], ssf: bool, m: Multi, overhead: &[u8], counts: [u8; 6])
 }
 
 // A frame: the flags are kept, and each provisioned level is stepped in its record.
+#[tactic(auto, unfolding(crate::specs::Bay::framed_in))]
 pub fn frame_at(b: &mut [u8], flags: u8, ssf: bool, m: Multi, overhead: &[u8], counts: [u8; 6])
     ensures { b.new ≡ framed_in b.old flags ssf m overhead.now counts }
 {
@@ -232,6 +239,7 @@ fn one_mark(r: &mut [u8], given: bool) -> [u32; 5]
 }
 
 // Five figures from a place on.
+#[tactic(auto, using(answer::proofs::Overs::over_nil, answer::proofs::Overs::over_suc))]
 fn put_five(out: &mut [u32], at: usize, five: [u32; 5])
     requires { at + 5 ≤ length out.old }
     ensures { out.new ≡ over out.old at five }
@@ -258,6 +266,7 @@ fn mark_in(b: &mut [u8]) -> [u32; 30]
 }
 
 // A mark: each provisioned level is closed in its record, and the figures of all six.
+#[tactic(auto, unfolding(crate::specs::Bay::marked_in, crate::specs::Bay::figures_in))]
 pub fn mark_at(b: &mut [u8]) -> [u32; 30]
     ensures { MarkAt b.old result b.new }
 {
@@ -268,6 +277,7 @@ pub fn mark_at(b: &mut [u8]) -> [u32; 30]
 }
 
 // Whether level n is provisioned.
+#[tactic(auto, unfolding(crate::specs::Bay::given_in))]
 pub fn given_at(b: &[u8], n: u8) -> bool
     ensures { result ≡ given_in b.now n }
 {
@@ -284,6 +294,7 @@ pub fn given_at(b: &[u8], n: u8) -> bool
 }
 
 // What stands by a record, under SSF or not. The cycle being gathered and the one before it have no part in it.
+#[tactic(auto, unfolding(numbers::specs::Held::held_in, level::specs::Level::stands_by, layer::specs::Layer::tim_of))]
 fn stood_in(r: &[u8], ssf: bool) -> LevelStands
     ensures { result ≡ stood_in r.now ssf }
 {
@@ -322,6 +333,7 @@ fn stood_in(r: &[u8], ssf: bool) -> LevelStands
 }
 
 // What stands of level n by the path's SSF; nothing where it is not provisioned.
+#[tactic(auto, unfolding(crate::specs::Bay::stands_in))]
 pub fn stands_at(b: &[u8], n: u8, ssf: bool) -> LevelStands
     ensures { result ≡ stands_in b.now n ssf }
 {
@@ -343,6 +355,7 @@ pub fn stands_at(b: &[u8], n: u8, ssf: bool) -> LevelStands
 }
 
 // The accepted trace by a record.
+#[tactic(auto, unfolding(numbers::specs::Held::held_in))]
 fn trace_in(r: &[u8]) -> Traced
     ensures { result ≡ trace_of r.now }
 {
@@ -362,6 +375,7 @@ fn trace_in(r: &[u8]) -> Traced
 }
 
 // The accepted trace of level n; 13 where there is none.
+#[tactic(auto, unfolding(crate::specs::Bay::traced_in))]
 pub fn trace_at(b: &[u8], n: u8) -> Traced
     ensures { result ≡ traced_in b.now n }
 {

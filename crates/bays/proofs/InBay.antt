@@ -264,7 +264,7 @@ module _ (t : Tandem) (i : TandemIn t) where
 pub in_bay : (t : Tandem) → TandemIn t → InBay t
 in_bay t i = record {
   sound = bay_tested t.flags t.levels i.flags i.six i.levels;
-  goal = given_in_lem t i;
+  given = given_in_lem t i;
   framed = framed_in_lem t i;
   marked = marked_in_lem t i;
   provisioned = given_is t i;

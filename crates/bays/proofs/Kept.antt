@@ -177,13 +177,13 @@ fresh_in p i = record {
   levels = all_same 6 blank_level ((level_kept blank_options).fresh blank_in);
 }
 
-handed_in : (t : Tandem) → TandemIn t → (cs : List LevelCall) → CallBytes cs → TandemIn (tandem_after t cs)
+handed_in : (cs : List LevelCall) (t : Tandem) → TandemIn t → CallBytes cs → TandemIn (tandem_after t cs)
 unfolding tandem_after tandem_by
-handed_in t i [] b = i
-handed_in t i (gives n r names ∷ cs) b = handed_in _ (given_in_lem t i n r names _ (give_in_lem t i n r names)) cs b
-handed_in t i (records n r names ∷ cs) b = handed_in _ (given_in_lem t i n r names _ (record_in t i n r names)) cs b
-handed_in t i (frames f counts ∷ cs) b = handed_in _ (framed_in_lem t i f counts b.0) cs b.1
-handed_in t i (marks ∷ cs) b = handed_in _ (marked_in_lem t i) cs b
+handed_in [] t i b = i
+handed_in (gives n r names ∷ cs) t i b = handed_in cs _ (given_in_lem t i n r names _ (give_in_lem t i n r names)) b
+handed_in (records n r names ∷ cs) t i b = handed_in cs _ (given_in_lem t i n r names _ (record_in t i n r names)) b
+handed_in (frames f counts ∷ cs) t i b = handed_in cs _ (framed_in_lem t i f counts b.0) b.1
+handed_in (marks ∷ cs) t i b = handed_in cs _ (marked_in_lem t i) b
 
 pub tandem_kept : TandemKept
 tandem_kept = record {
@@ -192,5 +192,5 @@ tandem_kept = record {
   recorded = λ t i n r names. given_in_lem t i n r names _ (record_in t i n r names);
   framed = framed_in_lem;
   marked = marked_in_lem;
-  always = λ p i cs b. handed_in (fresh_tandem (fresh_of p)) (fresh_in p i) cs b;
+  always = λ p i cs b. handed_in cs (fresh_tandem (fresh_of p)) (fresh_in p i) b;
 }

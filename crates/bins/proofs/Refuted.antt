@@ -1,15 +1,14 @@
 -- Wrong answers that the contracts shut out, each for one input. Assumes nothing.
 use Prim.Native.Nat.{ℕ}
 use mathlib.Core.Path.{◌≡◌, sym, ap, ◌∙◌}
-use mathlib.Core.List.{List, [], ◌∷◌}
+use mathlib.Core.List.{◌∷◌}
 use native.Mathlib.Omega.{arith}
 use contract.Lifetimes.{Lfts}
 use borrow.Fn.Kinds.{Dens, ended_of}
 use denote.Triple.Clauses.{AtExit}
-use lib.ListN.{length, get_or, replicate}
-use Rattle.listing.specs.Text.{fitted, decimal_in, spaced, fields_of, text_line}
+use lib.ListN.{replicate}
+use Rattle.listing.specs.Text.{fitted}
 use Rattle.summary.specs.Summary.{five_good, heads_good, valid_of, follows_on, join_refusal, join_of, added_of, second_of}
-use Rattle.summary.specs.declared.Summary.{Summary}
 use Rattle.bins.specs.Bins.{no_bins, bins_with, opened_of, bin_lines}
 use Rattle.bins.specs.declared.Bins.{Bins}
 use Rattle.bins.proofs.no_bins.Kinds as none_kinds

@@ -38,6 +38,7 @@ fn without_levels(f: [u32; 52]) -> [u32; 22]
 }
 
 // A second joined to the open quarter-hour and to the open day.
+#[tactic(auto, unfolding(crate::specs::Bins::bins_with, summary::specs::Summary::second_of))]
 pub fn bins_with(b: Bins, f: [u32; 52]) -> Bins
     ensures { result ≡ bins_with b f }
 {
@@ -63,6 +64,7 @@ fn kept(closed: bool, s: Summary) -> Summary
 }
 
 // What is open after second n.
+#[tactic(auto, unfolding(crate::specs::Bins::opened_of))]
 pub fn opened(b: Bins, n: u32) -> Bins
     ensures { result ≡ opened_of b n }
 {
@@ -98,6 +100,7 @@ fn put_if(print: bool, letter: u8, size: u64, s: Summary, out: &mut [u8], at: us
     at
 }
 
+#[tactic(auto, unfolding(crate::specs::Bins::bin_lines))]
 fn put_both(quarter: bool, day: bool, b: Bins, out: &mut [u8], at: usize) -> usize
     requires { at + 1012 ≤ length out.old }
     ensures { Wrote 1012 out.old at result out.new (bin_lines quarter day b) }

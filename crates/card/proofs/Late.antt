@@ -1,22 +1,21 @@
 -- The supervisor's bytes with the pending second behind them: what is done in the first 2448 leaves it, and a mark puts the second just closed in its place.
 -- Assumes nothing.
-use mathlib.Core.Path.{◌≡◌, refl, sym, ap, ap₂, ◌∙◌}
-use mathlib.Core.Bool.{Bool, true, false, cond, ◌&&◌}
-use mathlib.Core.List.{List, [], ◌∷◌, ◌++◌, map, append-nil}
+use mathlib.Core.Path.{◌≡◌, refl, sym, ap, ◌∙◌}
+use mathlib.Core.Bool.{Bool, true, false, ◌&&◌}
+use mathlib.Core.List.{List, [], ◌∷◌, ◌++◌, append-nil}
 use Prim.Native.Nat.{ℕ, ◌+◌, ◌≤◌, ◌<◌}
 use native.Mathlib.Nat.{zero-add}
 use native.Mathlib.Omega.{arith}
-use lib.Dec.{eqb, ltb}
 use lib.ListN.{length, take, drop, replicate, length-drop, drop_of_length-le}
 use lib.Seq.{length-take-le, take_all, take_at, drop_at, take-take, drop-drop}
 use borrow.Author.Tests.{eq-eqb, ne_eqb, lt-ltb}
 use Rattle.codec.specs.Over.{bytes_in, poured}
 use Rattle.codec.proofs.Overs.{poured_all, bytes_room}
-use Rattle.words.specs.Words.{flat, words_of, words_in}
+use Rattle.words.specs.Words.{flat, words_in}
 use Rattle.words.proofs.Words.{words_room}
 use Rattle.numbers.specs.declared.State.{State}
 use Rattle.numbers.specs.Numbers.{state_in}
-use Rattle.numbers.specs.Held.{Held, held_in}
+use Rattle.numbers.specs.Held.{held_in}
 use Rattle.numbers.proofs.Strips.{both}
 use Rattle.image.specs.Image.{load_of}
 use Rattle.image.proofs.Parts.{bytes_in_bytes}
@@ -26,14 +25,11 @@ use Rattle.tandem.specs.Tandem.{fresh_tandem, marked_of}
 use Rattle.tandem.specs.declared.Tandem.{Tandem}
 use Rattle.late.specs.Late.{fresh_late, section_erred, levels_erred, voided, next_report, late_marked}
 use Rattle.late.specs.declared.Erred.{Erred}
-use Rattle.late.specs.declared.Late.{Late}
 use Rattle.slot.specs.Slot.{slot_sound}
-use Rattle.bay.specs.Bay.{records_of}
 use Rattle.bays.specs.Image.{tandem_bytes, tandem_from, tandem_sound, levels_in}
-use Rattle.bays.specs.Ranges.{TandemIn}
 use Rattle.slots.specs.Image.{late_bytes, late_from, late_sound}
 use Rattle.slots.proofs.Figures.{slot_long, slot_stays}
-use Rattle.slots.proofs.Trip.{same_late, late_bytes_lem, tandem_sound_lem, slot_sound_lem}
+use Rattle.slots.proofs.Trip.{same_late, late_bytes_lem, slot_sound_lem}
 use Rattle.slots.proofs.Kept.{closed_below}
 use Rattle.card.specs.Calls.{tandem_of, late_with, erred_in}
 

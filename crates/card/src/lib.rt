@@ -195,6 +195,7 @@ pub extern "C" fn otn_level(
 }
 
 // Each of the six counts is at most 8.
+#[tactic(auto, unfolding(tandem::specs::Levels::low_to))]
 fn all_low(counts: [u8; 6]) -> bool
     ensures { result ≡ low_to 6 counts }
 {
@@ -207,6 +208,7 @@ fn all_low(counts: [u8; 6]) -> bool
 }
 
 // The refusal of a frame where the open second holds so many, 0 where it is accepted.
+#[tactic(auto, unfolding(crate::specs::Calls::refusal_by))]
 fn step_refusal(frames: u32, overhead: &[u8], flags: u8, sm: u8, pm: u8, counts: [u8; 6]) -> u8
     ensures { result ≡ refusal_by frames overhead.now flags sm pm counts }
 {

@@ -112,6 +112,7 @@ pub struct Report {
 }
 
 // Section SSF.
+#[tactic(auto, unfolding(crate::specs::Causes::ssf_of))]
 pub fn ssf_of(l: Line) -> bool
     ensures { result ≡ ssf_of l }
 {
@@ -119,6 +120,7 @@ pub fn ssf_of(l: Line) -> bool
 }
 
 // TIM acts.
+#[tactic(auto, unfolding(crate::specs::Causes::tim_acts))]
 pub fn tim_acts(tim: bool, disabled: bool) -> bool
     ensures { result ≡ tim_acts tim disabled }
 {
@@ -229,6 +231,7 @@ fn first(stands: bool, head: u8, rest: u8) -> u8
 }
 
 // The head: the first that fits.
+#[tactic(auto, unfolding(crate::specs::Causes::head_of))]
 pub fn head_of(d: Standing) -> u8
     ensures { result ≡ head_of d }
 {
@@ -287,6 +290,7 @@ pub fn report_with(causes: PathCauses, d: Standing, sm: u8, pm: u8) -> Report
 }
 
 // The same, the path's causes by the equations.
+#[tactic(auto, unfolding(crate::specs::Causes::report_of))]
 pub fn report_of(d: Standing, sm: u8, pm: u8) -> Report
     ensures { result ≡ report_of d sm pm }
 {
@@ -328,6 +332,7 @@ pub fn nothing() -> Standing
 }
 
 // The report of nothing.
+#[tactic(auto, unfolding(crate::specs::Causes::no_report))]
 pub fn no_report() -> Report
     ensures { result ≡ no_report }
 {

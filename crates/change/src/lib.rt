@@ -44,6 +44,7 @@ fn seen_of(l: Layer) -> Seen
 }
 
 // A level's accepted trace, where it is provisioned.
+#[tactic(auto, unfolding(crate::specs::Change::level_seen))]
 fn level_seen(l: Level) -> Seen
     ensures { result ≡ level_seen l }
 {
@@ -72,6 +73,7 @@ fn traces_of(ls: [Level; 6]) -> [Seen; 6]
 }
 
 // What stands after a frame: its report, what stands of the levels, and the accepted traces of the supervisor that is left.
+#[tactic(auto, unfolding(crate::specs::Change::shown_of))]
 pub fn shown_of(t: Tandem, report: Report, levels: [LevelStands; 6]) -> Shown
     ensures { result ≡ shown_of t report levels }
 {
@@ -95,6 +97,7 @@ fn wide8(x: u8) -> u64
 }
 
 // The head where it changed.
+#[tactic(auto, unfolding(crate::specs::Change::head_change))]
 fn put_head(before: u8, after: u8, out: &mut [u8], at: usize) -> usize
     requires { at + 26 ≤ length out.old }
     ensures { Wrote 26 out.old at result out.new (head_change before after) }
@@ -107,6 +110,7 @@ fn put_head(before: u8, after: u8, out: &mut [u8], at: usize) -> usize
 }
 
 // A byte as it is printed.
+#[tactic(auto, unfolding(crate::specs::Change::printable_of))]
 fn printable(b: u8) -> u8
     ensures { result ≡ printable_of b }
 {
@@ -130,6 +134,7 @@ fn put_readable(trace: [u8; 64], out: &mut [u8], at: usize) -> usize
 }
 
 // A trace under its name.
+#[tactic(auto, unfolding(crate::specs::Change::told_of))]
 fn put_told(name: &[u8], trace: [u8; 64], out: &mut [u8], at: usize) -> usize
     requires { (length name.now ≤ 10) × (at + 78 ≤ length out.old) }
     ensures { Wrote 78 out.old at result out.new (told_of name.now trace) }
@@ -142,6 +147,7 @@ fn put_told(name: &[u8], trace: [u8; 64], out: &mut [u8], at: usize) -> usize
 }
 
 // `-` and the name of a trace that is known no longer.
+#[tactic(auto, unfolding(conditions::specs::Conditions::change_of))]
 fn put_gone(name: &[u8], out: &mut [u8], at: usize) -> usize
     requires { (length name.now ≤ 10) × (at + 78 ≤ length out.old) }
     ensures { Wrote 78 out.old at result out.new (change_of name.now true false) }
@@ -151,6 +157,7 @@ fn put_gone(name: &[u8], out: &mut [u8], at: usize) -> usize
 }
 
 // A layer's accepted trace where it changed.
+#[tactic(auto, unfolding(crate::specs::Change::trace_change, conditions::specs::Conditions::change_of))]
 fn put_trace(name: &[u8], before: Seen, after: Seen, out: &mut [u8], at: usize) -> usize
     requires { (length name.now ≤ 10) × (at + 78 ≤ length out.old) }
     ensures { Wrote 78 out.old at result out.new (trace_change name.now before after) }
@@ -171,6 +178,7 @@ fn put_trace(name: &[u8], before: Seen, after: Seen, out: &mut [u8], at: usize) 
 }
 
 // Each level's conditions that changed, lowest level first.
+#[tactic(auto, unfolding(crate::specs::Change::levels_to))]
 fn put_levels(
     before: [LevelStands; 6],
     after: [LevelStands; 6],
@@ -217,6 +225,7 @@ fn put_level_trace(n: u8, before: Seen, after: Seen, out: &mut [u8], at: usize) 
 }
 
 // Each level's accepted trace where it changed, lowest level first.
+#[tactic(auto, unfolding(crate::specs::Change::levels_to))]
 fn put_level_traces(before: [Seen; 6], after: [Seen; 6], out: &mut [u8], from: usize) -> usize
     requires { from + 468 ≤ length out.old }
     ensures { Wrote 468 out.old from result out.new (levels_to (trace_of before after) 6) }
@@ -231,6 +240,7 @@ fn put_level_traces(before: [Seen; 6], after: [Seen; 6], out: &mut [u8], from: u
 }
 
 // What changed of what stands: the conditions, the levels', the head.
+#[tactic(auto, unfolding(crate::specs::Change::standing_changes))]
 fn put_standing(before: Shown, after: Shown, out: &mut [u8], at: usize) -> usize
     requires { at + 1774 ≤ length out.old }
     ensures { Wrote 1774 out.old at result out.new (standing_changes before after) }
@@ -243,6 +253,7 @@ fn put_standing(before: Shown, after: Shown, out: &mut [u8], at: usize) -> usize
 }
 
 // What changed of the accepted traces.
+#[tactic(auto, unfolding(crate::specs::Change::trace_changes))]
 fn put_traces(before: Shown, after: Shown, out: &mut [u8], at: usize) -> usize
     requires { at + 624 ≤ length out.old }
     ensures { Wrote 624 out.old at result out.new (trace_changes before after) }
@@ -270,6 +281,7 @@ fn wide(x: u32) -> u64
 }
 
 // A line with what changed.
+#[tactic(auto, unfolding(crate::specs::Change::frame_line, crate::specs::Change::beginning_of))]
 fn put_line(second: u64, frame: u32, total: u64, changes: &[u8], out: &mut [u8], at: usize) -> usize
     requires { at + (65 + length changes.now) ≤ length out.old }
     ensures { Wrote (65 + length changes.now) out.old at result out.new (frame_line second frame total changes.now) }

@@ -16,6 +16,7 @@ fn read_bytes(t: &mut [u8], b: &[u8], at: usize)
 }
 
 // The bytes of src from `at`.
+#[tactic(auto, using(answer::proofs::Overs::over_nil, answer::proofs::Overs::over_suc))]
 fn put_bytes(b: &mut [u8], at: usize, src: &[u8])
     requires { at + length src.now ≤ length b.old }
     ensures { b.new ≡ over b.old at src.now }
@@ -26,6 +27,7 @@ fn put_bytes(b: &mut [u8], at: usize, src: &[u8])
 }
 
 // A band of b: 64 bytes from `at`.
+#[tactic(auto, using(crate::proofs::Overs::bytes_room, crate::proofs::Overs::bytes_beyond))]
 pub fn band_in(b: &[u8], at: u32) -> [u8; 64]
     ensures { result ≡ bytes_in 64 at b.now }
 {
@@ -39,6 +41,7 @@ pub fn band_in(b: &[u8], at: u32) -> [u8; 64]
 }
 
 // A strip of b: 32 bytes from `at`.
+#[tactic(auto, using(crate::proofs::Overs::bytes_room, crate::proofs::Overs::bytes_beyond))]
 pub fn strip_in(b: &[u8], at: u32) -> [u8; 32]
     ensures { result ≡ bytes_in 32 at b.now }
 {
@@ -52,6 +55,7 @@ pub fn strip_in(b: &[u8], at: u32) -> [u8; 32]
 }
 
 // The bytes of src laid over b from `at`.
+#[tactic(auto, using(crate::proofs::Overs::laid_done, crate::proofs::Overs::laid_kept))]
 pub fn lay_bytes(b: &mut [u8], at: usize, src: &[u8])
     ensures { b.new ≡ laid b.old at src.now }
 {
@@ -76,6 +80,7 @@ pub fn lay_strip(b: &mut [u8], at: u32, strip: [u8; 32])
     lay_bytes(b, at as usize, &strip);
 }
 
+#[tactic(auto, unfolding(crate::specs::Over::least_of))]
 fn least(a: usize, b: usize) -> usize
     ensures { result ≡ least_of a b }
 {
@@ -86,6 +91,7 @@ fn least(a: usize, b: usize) -> usize
 }
 
 // Of src, the first bytes that `out` has room for, over its front.
+#[tactic(auto, using(answer::proofs::Overs::over_nil, answer::proofs::Overs::over_suc, crate::proofs::Overs::least_low, crate::proofs::Overs::least_left, crate::proofs::Overs::take_least), unfolding(crate::specs::Over::poured))]
 pub fn pour(out: &mut [u8], src: &[u8])
     ensures { out.new ≡ poured out.old src.now }
 {

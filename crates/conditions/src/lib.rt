@@ -36,6 +36,7 @@ const LONG: [u8; 38] = *b"\
     777777";
 
 // Which conditions stand, in the order of the names.
+#[tactic(auto, unfolding(crate::specs::Conditions::conditions, crate::specs::Conditions::stands_of))]
 fn standing_of(r: Report) -> [bool; 38]
     ensures { result ≡ stands_of (conditions r) }
 {
@@ -126,6 +127,7 @@ fn number_of(digit: u8) -> usize
 }
 
 // Each condition of a table that changed, in the table's order: rows of eight bytes, a digit for the length of each, and a prefix to each name.
+#[tactic(auto, unfolding(crate::specs::Rows::changes_to, crate::specs::Rows::room_to))]
 fn put_rows(
     prefix: &[u8],
     table: &[u8],
@@ -151,6 +153,7 @@ fn put_rows(
 }
 
 // Each condition that changed, in the order of the names.
+#[tactic(auto, unfolding(crate::specs::Rows::room_to))]
 fn put_each(before: Report, after: Report, out: &mut [u8], from: usize) -> usize
     requires { from + 380 ≤ length out.old }
     ensures { Wrote 380 out.old from result out.new (condition_changes before after) }
@@ -183,6 +186,7 @@ const WORDS: [u8; 152] = *b"\
 const WORD_LONG: [u8; 19] = *b"3444444454444444444";
 
 // Which conditions of a level stand, in the order of the words.
+#[tactic(auto, unfolding(crate::specs::Conditions::level_words, crate::specs::Conditions::stands_of))]
 fn level_standing(d: LevelStands) -> [bool; 19]
     ensures { result ≡ stands_of (level_words d) }
 {
@@ -205,6 +209,7 @@ fn prefix_of(n: u8) -> [u8; 5]
 }
 
 // Each condition of level n that changed, in the order of the words.
+#[tactic(auto, unfolding(crate::specs::Rows::room_to))]
 fn put_words(n: u8, before: LevelStands, after: LevelStands, out: &mut [u8], from: usize) -> usize
     requires { from + 228 ≤ length out.old }
     ensures { Wrote 228 out.old from result out.new (level_changes n before after) }

@@ -2,6 +2,6 @@
 // lines of the listing.
 #![tactic(auto)]
 
-fn main() {
-    reading::run(true, false);
+fn main(rt: HostRuntime) {
+    reading::run(&rt, true, false);
 }

@@ -39,10 +39,10 @@ filter_of_three κs a x s b end e =
 
 -- lay_stat: the accepted value has a byte of its own
 pub accepted_is_value : (κs : Lfts 1) (a : Dens κs lay_stat_kinds.ps) (s : AtExit (ended_of 1 lay_stat_kinds.ps lay_stat_kinds.r) κs)
-    → now a.0 ≡ replicate 4 0 → a.1.0 ≡ record { value = 6; run = 1; known = true; accepted = 7 } → get_or (now s.0) 3 0 ≡ 6
+    → a.0.now ≡ replicate 4 0 → a.1.0 ≡ record { value = 6; run = 1; known = true; accepted = 7 } → get_or s.0.now 3 0 ≡ 6
     → lay_stat_reads.Post κs a tt s → ⊥
 accepted_is_value κs a s b stat end e =
-    let h : now s.0 ≡ stat_laid (replicate 4 0) (record { value = 6; run = 1; known = true; accepted = 7 }) = rw (b, stat) at e in
+    let h : s.0.now ≡ stat_laid (replicate 4 0) (record { value = 6; run = 1; known = true; accepted = 7 }) = rw (b, stat) at e in
     let z : ◌≡◌ {A = ℕ} 6 7 = sym end ∙ ap (λ (l : List ℕ). get_or l 3 0) h in
     omega arith
 

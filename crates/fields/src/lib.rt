@@ -14,6 +14,7 @@ fn wide(x: u8) -> u32
 }
 
 // A filter in its two bytes: stepped, and written back.
+#[tactic(auto, using(crate::proofs::Parts::two))]
 pub fn filter_at(w: &mut [u8], n: u32, forget: bool, bit: bool) -> Filter
     ensures { FilterStep w.old n forget bit result w.new }
 {
@@ -32,6 +33,7 @@ pub fn filter_at(w: &mut [u8], n: u32, forget: bool, bit: bool) -> Filter
 }
 
 // A STAT in its four bytes.
+#[tactic(auto, using(crate::proofs::Parts::four))]
 pub fn lay_stat(w: &mut [u8], s: Stat)
     ensures { w.new ≡ stat_laid w.old s }
 {
@@ -52,6 +54,7 @@ fn raise(w: &mut [u8], i: usize, more: bool)
 }
 
 // The four flags of the second.
+#[tactic(auto, using(crate::proofs::Parts::flags_is))]
 pub fn flags_at(w: &mut [u8], near: bool, far: bool, iae: bool, biae: bool)
     ensures { w.new ≡ flags_laid near far iae biae w.old }
 {

@@ -22,6 +22,7 @@ pub struct Stat {
 }
 
 // One more, and n at most.
+#[tactic(auto, unfolding(crate::specs::Filter::up_of))]
 pub fn up(run: u32, n: u32) -> u32
     ensures { result ≡ up_of run n }
 {
@@ -32,6 +33,7 @@ pub fn up(run: u32, n: u32) -> u32
 }
 
 // So many more, and most at most.
+#[tactic(auto, unfolding(crate::specs::Filter::add_of))]
 pub fn add(run: u32, more: u32, most: u32) -> u32
     ensures { result ≡ add_of run more most }
 {
@@ -44,6 +46,7 @@ pub fn add(run: u32, more: u32, most: u32) -> u32
 }
 
 // The filter after one more bit, where nothing is forgotten.
+#[tactic(auto, unfolding(crate::specs::Filter::filter_of))]
 fn filter_met(f: Filter, n: u32, bit: bool) -> Filter
     ensures { result ≡ filter_of f n false bit }
 {
@@ -58,6 +61,7 @@ fn filter_met(f: Filter, n: u32, bit: bool) -> Filter
 }
 
 // The filter after one more bit; forgotten where `forget`, and its work done all the same.
+#[tactic(auto, unfolding(crate::specs::Filter::filter_of))]
 pub fn filter_step(f: Filter, n: u32, forget: bool, bit: bool) -> Filter
     ensures { result ≡ filter_of f n forget bit }
 {
@@ -69,6 +73,7 @@ pub fn filter_step(f: Filter, n: u32, forget: bool, bit: bool) -> Filter
 }
 
 // The value after one more frame; forgotten where `forget`.
+#[tactic(auto, unfolding(crate::specs::Stat::stat_of, crate::specs::Stat::in_row))]
 pub fn stat_step(s: Stat, forget: bool, value: u8) -> Stat
     ensures { result ≡ stat_of s forget value }
 {

@@ -116,6 +116,7 @@ pub fn fresh_layers() -> Layers
 }
 
 // What stands at the line.
+#[tactic(auto, unfolding(crate::specs::Layers::line_of))]
 pub fn line_of(a: Alignment, n: u32, flags: u8) -> Line
     ensures { result ≡ line_of a n flags }
 {
@@ -130,6 +131,7 @@ pub fn line_of(a: Alignment, n: u32, flags: u8) -> Line
 }
 
 // The section after a frame: its trace and dTIM before dIAE and dBIAE.
+#[tactic(auto, unfolding(crate::specs::Layers::section_of, crate::specs::Layers::section_stands))]
 fn section_step(s: SectionState, p: Options, ssf: bool, m: Multi, f: Field) -> SectionFrame
     ensures { result ≡ section_frame s p ssf m f }
 {
@@ -161,6 +163,7 @@ fn section_step(s: SectionState, p: Options, ssf: bool, m: Multi, f: Field) -> S
 }
 
 // The path after a frame: STAT before its trace and BDI.
+#[tactic(auto, unfolding(crate::specs::Layers::path_of, crate::specs::Layers::path_stands))]
 fn path_step(s: PathState, p: Options, ssf: bool, m: Multi, f: Field) -> PathFrame
     ensures { result ≡ path_frame s p ssf m f }
 {
@@ -188,6 +191,7 @@ fn path_step(s: PathState, p: Options, ssf: bool, m: Multi, f: Field) -> PathFra
 }
 
 // Alignment, then the section, then the path.
+#[tactic(auto, unfolding(crate::specs::Layers::layers_of, crate::specs::Layers::standing_of))]
 pub fn advance(s: Settings, l: Layers, o: Overhead, flags: u8) -> Advanced
     ensures { result ≡ advance_of s l o flags }
 {

@@ -1,3 +1,2 @@
 // No code: what holds of every history.
 #![tactic(auto)]
-

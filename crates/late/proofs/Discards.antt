@@ -3,8 +3,7 @@ use mathlib.Core.Path.{◌≡◌, refl}
 use mathlib.Core.Bool.{Bool, true, false, ◌||◌}
 use Rattle.second.specs.Second.{discard_of}
 use Rattle.second.specs.declared.Blocks.{Blocks}
-use Rattle.late.specs.Late.{void_five, five_by, SameDiscard, EverySameDiscard}
-use Rattle.late.specs.declared.Erred.{Erred}
+use Rattle.late.specs.Late.{void_five, five_by, EverySameDiscard}
 
 values : (b : Blocks) (i j : Bool) → void_five (record { iae = i; biae = j }) (five_by b) ≡ five_by (discard_of b i j)
 unfolding void_five discard_of

@@ -1,7 +1,7 @@
 -- Answers that tempting readings give, shut out by the contracts of this crate. Assumes nothing.
 use Prim.Native.Nat.{ℕ}
 use mathlib.Core.Path.{◌≡◌, refl, sym, ap, ◌∙◌}
-use mathlib.Core.Bool.{Bool, true, false}
+use mathlib.Core.Bool.{true, false}
 use mathlib.Core.List.{List}
 use native.Mathlib.Omega.{arith}
 use lib.Dec.{eqb}
@@ -11,7 +11,7 @@ use borrow.Fn.Kinds.{Dens, ended_of}
 use denote.Triple.Clauses.{AtExit}
 use Rattle.answer.proofs.Cond.{by_cond, not_so}
 use Rattle.tandem.specs.Tandem.{marked_of}
-use Rattle.late.specs.Late.{void_five, void_levels, voided, pending_of, late_marked}
+use Rattle.late.specs.Late.{void_five, voided, pending_of, late_marked}
 use Rattle.late.specs.declared.Late.{Late}
 use Rattle.late.specs.declared.LateMarked.{LateMarked}
 use Rattle.late.specs.declared.PendingSecond.{PendingSecond}

@@ -1,6 +1,6 @@
 -- The pending second (document 02, K3): a mark reports the second that was closed before it, discarded by pIAE and pBIAE of its own and of the second that the
 -- mark closes, and makes that one pending. Assumes nothing.
-use Rattle.std.specs.Prelude.{ℕ, ◌≡◌, Bool, false, cond, ◌||◌, List, [], ◌∷◌, ◌++◌, map, eqb, ltb, get_or, take, drop, replicate}
+use Rattle.std.specs.Prelude.{ℕ, ◌≡◌, false, cond, ◌||◌, List, [], ◌∷◌, ◌++◌, map, eqb, ltb, get_or, take, drop, replicate}
 use Rattle.answer.specs.Bits.{flag}
 use Rattle.second.specs.Second.{discard_of}
 use Rattle.second.specs.declared.Blocks.{Blocks}

@@ -59,6 +59,7 @@ fn kept(x: u32, gone: bool) -> u32
 }
 
 // A layer's five figures from a place on, discarded.
+#[tactic(auto, using(crate::proofs::Voids::void_put))]
 fn void_at(v: &mut [u32], at: usize, e: Erred)
     requires { at + 5 ≤ length v.old }
     ensures { v.new ≡ over v.old at (void_five e (take 5 (drop at v.old))) }
@@ -76,6 +77,7 @@ fn void_at(v: &mut [u32], at: usize, e: Erred)
 }
 
 // The figures of a second, the section's and each level's discarded.
+#[tactic(auto, using(answer::proofs::Overs::over_nil), unfolding(crate::specs::Late::void_levels))]
 pub fn void(v: [u32; 51], section: Erred, levels: [Erred; 6]) -> [u32; 51]
     ensures { result ≡ voided section levels v }
 {
@@ -138,6 +140,7 @@ fn levels_erred(ls: [Level; 6]) -> [Erred; 6]
 }
 
 // The pending second.
+#[tactic(auto, unfolding(crate::specs::Late::pending_of))]
 pub fn pending(s: Late) -> PendingSecond
     ensures { result ≡ pending_of s }
 {
@@ -151,6 +154,7 @@ pub fn pending(s: Late) -> PendingSecond
 }
 
 // A mark: the pending second is reported, and the one just closed is pending.
+#[tactic(auto, unfolding(crate::specs::Late::late_marked))]
 pub fn mark(s: Late) -> LateMarked
     ensures { result ≡ late_marked s }
 {

@@ -65,6 +65,7 @@ fn equal_kept(goes: bool, equal: u32) -> u32
 
 // What every layer does in a frame: its trace and its BDI. The trace is forgotten, dropped in OOM, or one byte further, and a cycle
 // that was gathered whole closes at its last byte. The arrays are moved once, and changed in place.
+#[tactic(auto, unfolding(crate::specs::Layer::layer_of))]
 pub fn layer_step(l: Layer, forget: bool, inmulti: bool, number: u8, tti: u8, bdi: bool) -> Layer
     ensures { result ≡ layer_of l forget inmulti number tti bdi }
 {
@@ -98,6 +99,7 @@ pub fn layer_step(l: Layer, forget: bool, inmulti: bool, number: u8, tti: u8, bd
 
 // dTIM: a trace is accepted and the compared field differs. Both names are compared in each frame, whether or not a trace is accepted and
 // whatever the mode.
+#[tactic(auto, unfolding(crate::specs::Layer::tim_of))]
 pub fn tim(l: Layer, mode: u8, expected: [u8; 32]) -> bool
     ensures { result ≡ tim_of l mode expected }
 {

@@ -1,6 +1,6 @@
 // Reads a trace from standard input and writes its listing to standard output.
 #![tactic(auto)]
 
-fn main() {
-    reading::run(false, false);
+fn main(rt: HostRuntime) {
+    reading::run(&rt, false, false);
 }

@@ -90,6 +90,7 @@ pub struct LevelSecond {
 }
 
 // The status of a three-bit STAT number.
+#[tactic(auto, unfolding(crate::specs::Status::status_of))]
 fn status_of(stat: u8) -> Status
     ensures { result ≡ status_of stat }
 {
@@ -104,6 +105,7 @@ fn status_of(stat: u8) -> Status
 }
 
 // The status that stands: none until a STAT is accepted, and so no dLTC.
+#[tactic(auto, unfolding(crate::specs::Status::status_for))]
 pub fn status_for(s: Stat) -> Status
     ensures { result ≡ status_for s }
 {
@@ -164,6 +166,7 @@ pub fn raises_of(s: Status) -> Raises
 }
 
 // What stands, where dTIM is known.
+#[tactic(auto, unfolding(crate::specs::Level::stands_by))]
 fn stands_by(s: LevelState, ssf: bool, tim: bool, disabled: bool) -> LevelStands
     ensures { result ≡ stands_by s ssf tim disabled }
 {
@@ -193,6 +196,7 @@ pub fn level_stands(s: LevelState, p: Options, ssf: bool) -> LevelStands
 }
 
 // The level after a frame: STAT before its trace and BDI, and dTIM before dBIAE.
+#[tactic(auto, unfolding(crate::specs::Level::level_of))]
 pub fn level_step(s: LevelState, p: Options, ssf: bool, m: Multi, f: Field) -> LevelFrame
     ensures { result ≡ level_frame s p ssf m f }
 {
@@ -275,6 +279,7 @@ pub fn level_shows(d: LevelStands, bei: u8, violations: u8) -> Shows
 }
 
 // The open second after one more frame.
+#[tactic(auto, unfolding(crate::specs::Level::level_count))]
 pub fn level_count(c: LevelSecond, d: LevelStands, bei: u8, violations: u8) -> LevelSecond
     ensures { result ≡ level_count c d bei violations }
 {
@@ -297,6 +302,7 @@ pub fn level_closed(c: LevelSecond) -> Blocks
 }
 
 // The level at a mark: dDEG is decided by the second that is closed.
+#[tactic(auto, unfolding(crate::specs::Level::level_marked))]
 pub fn level_mark(s: LevelState, p: Options, c: LevelSecond) -> LevelState
     ensures { result ≡ level_marked s p c }
 {

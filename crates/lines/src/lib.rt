@@ -32,6 +32,7 @@ fn shown_in(st: State) -> Shown
 }
 
 // Puts the line of a record that was told at a place, the frames accepted with it being `total`; where out has not the room, nothing.
+#[tactic(auto, unfolding(crate::specs::Line::line_for))]
 pub fn told_line(was: State, is: State, total: u64, out: &mut [u8], at: usize) -> usize
     ensures { (result ≡ at + length (fitted (length out.old) at change_room (line_for (change total was is)))) × (result ≤ at + change_room) × (out.new ≡ over out.old at (fitted (length out.old) at change_room (line_for (change total was is)))) }
 {
@@ -59,6 +60,7 @@ fn listed_line(levels: [Level; 6], second: [u32; 52], out: &mut [u8], at: usize)
 }
 
 // Puts the line of the second that was reported last at a place; where out has not the room, nothing.
+#[tactic(auto, unfolding(crate::specs::Line::line_for))]
 fn reported_line(st: State, out: &mut [u8], at: usize) -> usize
     ensures { (result ≡ at + length (fitted (length out.old) at second_room (line_for (second (last_listed st))))) × (result ≤ at + second_room) × (out.new ≡ over out.old at (fitted (length out.old) at second_room (line_for (second (last_listed st))))) }
 {
@@ -147,6 +149,7 @@ fn end_text(office: bool, b: Bins, st: State, out: &mut [u8], at: usize) -> usiz
 }
 
 // Puts the refusal, if there is one, and what was accepted.
+#[tactic(auto, unfolding(crate::specs::Line::end_lines))]
 fn end_lines(refusal: u8, offset: u64, marks: u32, frames: u64, out: &mut [u8], at: usize) -> usize
     requires { at + 88 ≤ length out.old }
     ensures { (result ≡ at + length (end_lines refusal offset marks frames)) × (out.new ≡ over out.old at (end_lines refusal offset marks frames)) }
@@ -159,6 +162,7 @@ fn end_lines(refusal: u8, offset: u64, marks: u32, frames: u64, out: &mut [u8], 
 }
 
 // The last lines, where the output is whole with them: the pending second, the refusal, if there is one, and what was accepted.
+#[tactic(auto, unfolding(crate::specs::Line::last_lines))]
 fn finish(
     done: bool,
     office: bool,

@@ -63,6 +63,7 @@ fn put_byte(b: u8, out: &mut [u8], at: usize) -> usize
 }
 
 // A blank and a number.
+#[tactic(auto, unfolding(crate::specs::Text::spaced))]
 fn put_field(n: u64, out: &mut [u8], at: usize) -> usize
     requires { at + 21 ≤ length out.old }
     ensures { Wrote 21 out.old at result out.new (spaced n) }
@@ -72,6 +73,7 @@ fn put_field(n: u64, out: &mut [u8], at: usize) -> usize
 }
 
 // The numbers, each after a blank.
+#[tactic(auto, unfolding(crate::specs::Text::fields_of))]
 fn put_fields(ns: &[u64], out: &mut [u8], from: usize) -> usize
     requires { from + 21 * length ns.now ≤ length out.old }
     ensures { Wrote (21 * length ns.now) out.old from result out.new (fields_of ns.now) }
@@ -98,6 +100,7 @@ pub fn put_start(letter: u8, ns: [u64; 3], out: &mut [u8], at: usize) -> usize
 }
 
 // A line: a letter, the numbers and a line end.
+#[tactic(auto, unfolding(crate::specs::Text::text_line))]
 fn put_line(letter: u8, ns: &[u64], out: &mut [u8], at: usize) -> usize
     requires { at + (2 + 21 * length ns.now) ≤ length out.old }
     ensures { Wrote (2 + 21 * length ns.now) out.old at result out.new (text_line letter ns.now) }
@@ -135,6 +138,7 @@ pub fn second_line(figures: [u32; 52], n: usize, out: &mut [u8], at: usize) -> u
 }
 
 // A line of a number and of others behind it.
+#[tactic(auto, unfolding(crate::specs::Text::text_line, crate::specs::Text::fields_of))]
 fn put_numbered(letter: u8, number: u64, ns: &[u64], out: &mut [u8], at: usize) -> usize
     requires { at + (23 + 21 * length ns.now) ≤ length out.old }
     ensures { Wrote (23 + 21 * length ns.now) out.old at result out.new (text_line letter (number ∷ ns.now)) }

@@ -61,6 +61,7 @@ fn index_of(
 
 // The cause byte that the eight inputs select.
 #[unsafe(no_mangle)]
+#[tactic(auto, unfolding(crate::specs::Lookup::entry, crate::specs::Lookup::cause_table))]
 pub extern "C" fn causes_by_table(
     ssf: bool,
     ais: bool,
@@ -122,6 +123,7 @@ fn causes_in(byte: u8) -> PathCauses
 }
 
 // The report of what stands, the path's causes by the table. dAIS, dOCI and dLCK are handed in as yes or no, so that no case of the signal is looked at on the way to the entry.
+#[tactic(auto, unfolding(crate::specs::Lookup::report_raised))]
 pub fn report_by_table(raised: Raised, d: Standing, sm: u8, pm: u8) -> Report
     ensures { result ≡ report_raised raised d sm pm }
 {

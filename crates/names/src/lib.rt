@@ -16,6 +16,7 @@ pub struct Compared {
 }
 
 // Whether two cycles, or two traces, are the same in all 64 bytes.
+#[tactic(auto, unfolding(crate::specs::Names::same_in, crate::specs::Names::same_trace))]
 pub fn same_trace(a: &[u8; 64], b: &[u8; 64]) -> bool
     ensures { result ≡ same_trace a.now b.now }
 {
@@ -38,6 +39,7 @@ fn of_two(e: bool, f: bool) -> u32
 
 // Whether the SAPI and the DAPI of the accepted trace are the expected ones. All bytes are read, in one order, whatever was found; each
 // pair that is read is counted by what it was found to be, so that none can be counted and left unread.
+#[tactic(auto, unfolding(crate::specs::Names::same_in, crate::specs::Names::alike_in, crate::specs::Names::unlike_in))]
 pub fn compare(accepted: &[u8; 64], names: &[u8; 32]) -> Compared
     ensures { Compares accepted.now names.now result }
 {

@@ -1,3 +1,2 @@
 // No code: what `quarters` prints, by plain sums.
 #![tactic(auto)]
-

@@ -36,6 +36,7 @@ fn byte_at(bytes: &[u8], at: usize) -> u8
 }
 
 // Columns 3 to 5 of row 1 are F6 28 28.
+#[tactic(auto, unfolding(crate::specs::Overhead::three_of))]
 fn three_of(bytes: &[u8]) -> bool
     ensures { result ≡ three_of bytes.now }
 {
@@ -46,6 +47,7 @@ fn three_of(bytes: &[u8]) -> bool
 }
 
 // Columns 2 to 5 of row 1 are F6 F6 28 28.
+#[tactic(auto, unfolding(crate::specs::Overhead::four_of))]
 fn four_of(bytes: &[u8]) -> bool
     ensures { result ≡ four_of bytes.now }
 {
@@ -55,6 +57,7 @@ fn four_of(bytes: &[u8]) -> bool
 }
 
 // The field whose TTI byte stands at `at`; its status byte is two columns further.
+#[tactic(auto, unfolding(crate::specs::Overhead::field_of))]
 fn field_of(bytes: &[u8], tti: usize, status: usize) -> Field
     ensures { result ≡ field_of (get_or bytes.now tti 0) (get_or bytes.now status 0) }
 {
@@ -70,6 +73,7 @@ fn field_of(bytes: &[u8], tti: usize, status: usize) -> Field
 }
 
 // The overhead that any bytes show.
+#[tactic(auto, unfolding(crate::specs::Overhead::overhead_of))]
 pub fn overhead_of(bytes: &[u8]) -> Overhead
     ensures { result ≡ overhead_of bytes.now }
 {
@@ -88,6 +92,7 @@ pub fn overhead_of(bytes: &[u8]) -> Overhead
 }
 
 // The field of a tandem level, TCM1 to TCM6; zeros where there is no such level.
+#[tactic(auto, unfolding(crate::specs::Overhead::level_field, crate::specs::Overhead::field_of))]
 pub fn level_field(bytes: &[u8], level: u8) -> Field
     ensures { result ≡ level_field bytes.now level }
 {
@@ -117,6 +122,7 @@ pub enum Bei {
 }
 
 // The BEI reading of the section and of a tandem level.
+#[tactic(auto, unfolding(crate::specs::Bei::bei_of))]
 pub fn bei_of(code: u8) -> Bei
     ensures { result ≡ bei_of code }
 {
@@ -127,6 +133,7 @@ pub fn bei_of(code: u8) -> Bei
 }
 
 // The BEI reading of the path, where 1011 is none.
+#[tactic(auto, unfolding(crate::specs::Bei::path_bei, crate::specs::Overhead::far_block))]
 pub fn path_bei(code: u8) -> Bei
     ensures { result ≡ path_bei code }
 {

@@ -1,12 +1,12 @@
 -- The ways out of the two calls. Assumes nothing.
 use mathlib.Core.Path.{◌≡◌, refl, sym, ap, ◌∙◌}
-use mathlib.Core.Bool.{Bool, true, false, cond, ◌&&◌, true≢false}
+use mathlib.Core.Bool.{Bool, true, false, ◌&&◌, true≢false}
 use mathlib.Core.List.{List}
 use Prim.Native.Nat.{ℕ, ◌≤◌, ◌<◌}
 use native.Mathlib.Omega.{arith}
-use lib.Dec.{eqb, leb}
+use lib.Dec.{eqb}
 use lib.ListN.{length}
-use borrow.Author.Tests.{eq-eqb, ne_eqb, eqb-true, le-leb, lt-leb}
+use borrow.Author.Tests.{ne_eqb, eqb-true, le-leb, lt-leb}
 use Rattle.answer.proofs.Cond.{by_cond, and_left, and_right}
 use Rattle.codec.specs.Over.{poured}
 use Rattle.words.specs.Words.{words_in, numbers_in}

@@ -1,12 +1,12 @@
 -- Wrong answers that the contracts shut out, each for one input. Assumes nothing.
 use Prim.Native.Nat.{ℕ}
-use mathlib.Core.Path.{◌≡◌, sym, ap, ◌∙◌}
-use mathlib.Core.List.{List, [], ◌∷◌}
+use mathlib.Core.Path.{◌≡◌}
+use mathlib.Core.List.{[]}
 use native.Mathlib.Omega.{arith}
 use contract.Lifetimes.{Lfts}
 use borrow.Fn.Kinds.{Dens, ended_of}
 use denote.Triple.Clauses.{AtExit}
-use lib.ListN.{length, get_or, replicate}
+use lib.ListN.{replicate}
 use Rattle.words.specs.Words.{words_of}
 use Rattle.summary.specs.Summary.{five_good, heads_good, valid_of, second_of}
 use Rattle.pack.specs.Pack.{recorded_of, summary_refusal, joined_refusal}

@@ -14,6 +14,7 @@ fn wide(x: u8) -> u64
 }
 
 // The bytes of a summary, as far as out has room.
+#[tactic(auto, unfolding(crate::specs::Pack::summary_bytes))]
 fn put(s: Summary, out: &mut [u8])
     ensures { out.new ≡ poured out.old (summary_bytes s) }
 {

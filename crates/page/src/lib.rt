@@ -1,3 +1,2 @@
 // Document 01's rules said by the history alone; it has no code.
 #![tactic(auto)]
-

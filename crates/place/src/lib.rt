@@ -42,6 +42,7 @@ fn wide(x: u8) -> u32
 }
 
 // The filters of a section.
+#[tactic(auto, using(crate::proofs::Numbers::filters_is))]
 fn filters_at(w: &mut [u8], ssf: bool, tim: bool, f: Field) -> Filtered
     requires { length w.old ≡ 6 }
     ensures { (result ≡ section_filters w.old ssf tim f) × (w.new ≡ filtered_bytes (section_filters w.old ssf tim f)) }
@@ -208,6 +209,7 @@ pub fn line_at(b: &mut [u8], four: bool, three: bool, mfas: u8, flags: u8) -> Li
 }
 
 // A frame filed under its head, in the words of the open second.
+#[tactic(auto, unfolding(crate::specs::Place::tallied_in))]
 pub fn tally_at(b: &mut [u8], head: u8)
     ensures { b.new ≡ tallied_in b.old head }
 {
@@ -251,6 +253,7 @@ pub fn close_at(b: &mut [u8]) -> Blocks
 }
 
 // The line's record at a mark: a head, and no frame under any head.
+#[tactic(auto, unfolding(crate::specs::Place::opened_in))]
 pub fn open_at(b: &mut [u8], h: Head)
     ensures { b.new ≡ opened_in b.old h }
 {

@@ -1,6 +1,6 @@
 // Reads a trace from standard input and writes its quarter-hours and days to standard output.
 #![tactic(auto)]
 
-fn main() {
-    reading::run(false, true);
+fn main(rt: HostRuntime) {
+    reading::run(&rt, false, true);
 }

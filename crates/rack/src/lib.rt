@@ -123,6 +123,7 @@ fn level_greatest() -> [u8; 64]
 }
 
 // Whether lent bytes are a level's record: their length, and each number within its range.
+#[tactic(auto, unfolding(crate::specs::Rack::level_sound))]
 pub fn level_sound(b: &[u8]) -> bool
     ensures { result ≡ level_sound b.now }
 {

@@ -9,6 +9,7 @@ ghost use Rattle.ranges.specs.Sound.{below, line_greatest, section_greatest, pat
 use words::word_of;
 
 // Whether each byte is at most its greatest: one loop, no branch.
+#[tactic(auto, using(words::proofs::Ranges::and_true, crate::proofs::Below::below_step, crate::proofs::Below::below_end, crate::proofs::Below::and_two))]
 fn is_below(greatest: [u8; 64], w: [u8; 64]) -> bool
     ensures { result ≡ below greatest w }
 {
@@ -51,6 +52,7 @@ fn path_greatest() -> [u8; 64]
 }
 
 // The line's numbers, and the twelve words of its second. The single numbers are read from the strips: h is the head, a alignment.
+#[tactic(auto, unfolding(crate::specs::Sound::line_ranged_by))]
 fn is_line(w: [u8; 64], h: [u8; 32], a: [u8; 32], c: [u32; 12]) -> bool
     ensures { result ≡ line_ranged_by w h a c }
 {
@@ -71,6 +73,7 @@ fn is_line(w: [u8; 64], h: [u8; 32], a: [u8; 32], c: [u32; 12]) -> bool
 }
 
 // A layer's numbers, by the greatest of each byte. The single numbers are read from the strips: f is the front, s the state.
+#[tactic(auto, unfolding(crate::specs::Sound::layer_ranged_by))]
 fn is_layer(greatest: [u8; 64], w: [u8; 64], f: [u8; 32], s: [u8; 32]) -> bool
     ensures { result ≡ layer_ranged_by greatest w f s }
 {
@@ -86,6 +89,7 @@ fn is_layer(greatest: [u8; 64], w: [u8; 64], f: [u8; 32], s: [u8; 32]) -> bool
 }
 
 // The line of lent bytes: its band, and the two strips of it.
+#[tactic(auto, using(crate::proofs::Strips::line_by_lem))]
 fn is_line_in(b: &[u8]) -> bool
     requires { length b.now ≡ 688 }
     ensures { result ≡ line_ranged (bytes_in 64 0 b.now) (words_in 12 64 b.now) }
@@ -98,6 +102,7 @@ fn is_line_in(b: &[u8]) -> bool
 }
 
 // A layer's record: its band, and the two strips of it. Fewer bytes than a band hold no layer.
+#[tactic(auto, using(crate::proofs::Strips::layer_by, crate::proofs::Strips::layer_short))]
 pub fn is_layer_in(b: &[u8], greatest: [u8; 64]) -> bool
     ensures { result ≡ layer_ranged greatest (bytes_in 64 0 b.now) }
 {
@@ -111,6 +116,7 @@ pub fn is_layer_in(b: &[u8], greatest: [u8; 64]) -> bool
 }
 
 // Whether lent bytes are a supervisor's: their length, then the numbers of the line and of each layer.
+#[tactic(auto, using(crate::proofs::Below::bytes_below, crate::proofs::Strips::front_in_lem), unfolding(crate::specs::Sound::sound))]
 pub fn is_sound(b: &[u8]) -> bool
     ensures { result ≡ sound b.now }
 {

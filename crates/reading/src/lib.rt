@@ -8,7 +8,7 @@ ghost use Rattle.answer.specs.Over.{over};
 ghost use Rattle.reading.specs.Turn.{Sound, start_refilled, halt_of, written_of, turn_of, Refill};
 
 use bins::Bins;
-use libc::{STDIN_FILENO, STDOUT_FILENO};
+use std::io::{Read, Write, writer};
 use trace::{State, Stop};
 
 // Where the reading stands between two pieces: whether every record is told, and whether it is for the office; the scan's state, the offset of the next record, the
@@ -55,6 +55,7 @@ fn wide(x: usize) -> u64
 }
 
 // What a stop says.
+#[tactic(auto, unfolding(crate::specs::Turn::halt_of))]
 fn halt_of(stop: Stop) -> Halt
     ensures { result ≡ halt_of stop }
 {
@@ -164,18 +165,23 @@ fn shift(buf: &mut [u8], from: usize, n: usize)
 }
 
 // Reads once into what is free of the buffer, and answers how many bytes came: 0 at the end of the input, and where a read fails.
-fn fill(buf: &mut [u8], held: usize) -> usize
+fn fill<R: Read>(input: &mut R, buf: &mut [u8], held: usize) -> usize
     requires { held ≤ length buf.old }
     ensures { (held + result ≤ length buf.new) × (take held buf.new ≡ take held buf.old) }
 {
     let free = &mut buf[held..];
-    let got = libc::read(STDIN_FILENO, free);
-    io::count(got, free)
+    input.read(free).unwrap_or(0)
 }
 
 // Refills the buffer, takes its records, writes what they give, and keeps the bytes not used. All that can be written is written before the
 // next read, so that a reader sees each second without waiting for the end; a write that fails ends the program.
-fn refill(from: Refilled, buf: &mut [u8], out: &mut [u8]) -> Refilled
+fn refill<R: Read, W: Write>(
+    from: Refilled,
+    input: &mut R,
+    output: &mut W,
+    buf: &mut [u8],
+    out: &mut [u8],
+) -> Refilled
     requires sound { Sound from.reading }
     requires held_bound { from.held < 83 }
     requires buf_len { length buf.old ≡ 4096 }
@@ -184,11 +190,11 @@ fn refill(from: Refilled, buf: &mut [u8], out: &mut [u8]) -> Refilled
 {
     let reading = from.reading;
     let held = from.held;
-    let got = fill(buf, held);
+    let got = fill(input, buf, held);
     let full = held + got;
     let t = turn(reading, &buf[0..full], got == 0, out);
     let put = t.put;
-    let sent = io::write_all(STDOUT_FILENO, &out[0..put]);
+    let sent = output.write_all(&out[0..put]).is_ok();
     let used = t.used;
     let left = full - used;
     shift(buf, used, left);
@@ -222,14 +228,21 @@ fn started(tell: bool, office: bool) -> Refilled
 
 // Refills until the output is whole. It ends for every input, however long: a trace has no more than 4,294,967,295 seconds of 400,000
 // frames.
-fn pump(tell: bool, office: bool, buf: &mut [u8], out: &mut [u8])
+fn pump<R: Read, W: Write>(
+    tell: bool,
+    office: bool,
+    input: &mut R,
+    output: &mut W,
+    buf: &mut [u8],
+    out: &mut [u8],
+)
     requires buf_len { length buf.old ≡ 4096 }
     requires in_bounds { 1122532 ≤ length out.old }
 {
     let mut r = started(tell, office);
     let mut ended = false;
     while !ended {
-        r = refill(r, buf, out);
+        r = refill(r, input, output, buf, out);
         ended = r.ended;
     }
 }
@@ -242,8 +255,10 @@ fn text_buffer() -> [u8; 1126400]
 }
 
 // A program from its start to its end: `ledger` tells the seconds, `explain` every record, `quarters` is for the office.
-pub fn run(tell: bool, office: bool) {
+pub fn run<R: Input + Print>(rt: &R, tell: bool, office: bool) {
     let mut buf = [0u8; 4096];
     let mut out = text_buffer();
-    pump(tell, office, &mut buf, &mut out);
+    let mut input = rt.reader();
+    let mut output = writer(rt);
+    pump(tell, office, &mut input, &mut output, &mut buf, &mut out);
 }

@@ -45,6 +45,7 @@ fn two_at(s: &[u8], at: usize) -> usize
 }
 
 // The record of a kind.
+#[tactic(auto, unfolding(crate::specs::Record::of_kind))]
 fn of_kind(kind: usize) -> Record
     ensures { result ≡ of_kind kind }
 {

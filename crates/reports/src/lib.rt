@@ -1,3 +1,2 @@
 // No code: what is reported of each second, said by the calls alone.
 #![tactic(auto)]
-

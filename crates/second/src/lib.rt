@@ -53,6 +53,7 @@ pub struct Shows {
     pub fards: bool,
 }
 
+#[tactic(auto, unfolding(crate::specs::Second::near_of))]
 fn near_step(n: Near, more: bool) -> Near
     ensures { result ≡ near_of n more }
 {
@@ -63,6 +64,7 @@ fn near_step(n: Near, more: bool) -> Near
     n
 }
 
+#[tactic(auto, unfolding(crate::specs::Second::far_of))]
 fn far_step(n: Far, more: bool) -> Far
     ensures { result ≡ far_of n more }
 {
@@ -74,6 +76,7 @@ fn far_step(n: Far, more: bool) -> Far
 }
 
 // The violations that a BEI reading adds: none where counting is stopped.
+#[tactic(auto, unfolding(crate::specs::Second::counted_of))]
 pub fn counted(b: Bei, stopped: bool) -> u32
     ensures { result ≡ counted_of b stopped }
 {
@@ -84,6 +87,7 @@ pub fn counted(b: Bei, stopped: bool) -> u32
     n as u32
 }
 
+#[tactic(auto, unfolding(crate::specs::Second::sum_of))]
 fn sum_step(n: Sum, more: u32) -> Sum
     ensures { result ≡ sum_of n more }
 {
@@ -91,6 +95,7 @@ fn sum_step(n: Sum, more: u32) -> Sum
     Sum(x)
 }
 
+#[tactic(auto, unfolding(crate::specs::Second::one_frame))]
 fn frames_step(n: Frames) -> Frames
     ensures { result ≡ one_frame n }
 {
@@ -98,6 +103,7 @@ fn frames_step(n: Frames) -> Frames
     Frames(x)
 }
 
+#[tactic(auto, unfolding(crate::specs::Second::blocks_of))]
 pub fn blocks_step(b: Blocks, s: Shows) -> Blocks
     ensures { result ≡ blocks_of b s }
 {
@@ -120,6 +126,7 @@ pub fn blocks_step(b: Blocks, s: Shows) -> Blocks
 }
 
 // One more under a head, 0 to 9.
+#[tactic(auto, unfolding(crate::specs::Second::one_under))]
 fn heads_step(heads: [u32; 10], head: u8) -> [u32; 10]
     ensures { result ≡ one_under heads head }
 {
@@ -134,6 +141,7 @@ fn heads_step(heads: [u32; 10], head: u8) -> [u32; 10]
 }
 
 // The second after one more frame.
+#[tactic(auto, unfolding(crate::specs::Second::count_of))]
 pub fn count(c: Second, d: Standing, o: Overhead, sm: u8, pm: u8) -> Second
     ensures { result ≡ count_of c d o sm pm }
 {
@@ -183,6 +191,7 @@ pub fn count(c: Second, d: Standing, o: Overhead, sm: u8, pm: u8) -> Second
 }
 
 // The section's values where dIAE or dBIAE stood in the second.
+#[tactic(auto, unfolding(crate::specs::Second::discard_of))]
 pub fn discard(b: Blocks, iae: bool, biae: bool) -> Blocks
     ensures { result ≡ discard_of b iae biae }
 {
@@ -209,6 +218,7 @@ pub fn discard(b: Blocks, iae: bool, biae: bool) -> Blocks
 }
 
 // The second as it is closed.
+#[tactic(auto, unfolding(crate::specs::Second::closed_of))]
 pub fn closed(c: Second) -> Second
     ensures { result ≡ closed_of c }
 {

@@ -33,6 +33,7 @@ pub struct Settings {
 }
 
 // The greatest DEGThr of k.
+#[tactic(auto, unfolding(crate::specs::Settings::ceiling_of))]
 fn ceiling(k: u8) -> u32
     ensures { result ≡ ceiling_of k }
 {
@@ -45,6 +46,7 @@ fn ceiling(k: u8) -> u32
     329492
 }
 
+#[tactic(auto, unfolding(crate::specs::Settings::thr_good))]
 fn thr_good(k: u8, thr: u32) -> bool
     ensures { result ≡ thr_good k thr }
 {
@@ -52,6 +54,7 @@ fn thr_good(k: u8, thr: u32) -> bool
     (1 <= thr) & (thr <= most)
 }
 
+#[tactic(auto, unfolding(crate::specs::Settings::degm_good))]
 fn degm_good(degm: u8) -> bool
     ensures { result ≡ degm_good degm }
 {
@@ -59,6 +62,7 @@ fn degm_good(degm: u8) -> bool
 }
 
 // The refusal of a provisioning, 0 where it is accepted.
+#[tactic(auto, unfolding(crate::specs::Settings::settings_refusal))]
 pub fn settings_refusal(k: u8, section: Request, path: Request, snames: &[u8], pnames: &[u8]) -> u8
     ensures { result ≡ settings_refusal k section path snames.now pnames.now }
 {

@@ -97,11 +97,11 @@ taken_plain : (t : Tandem) (h : List LevelEvent) → AllTaken t (map called h) �
 unfolding tandem_by event_of plain_refusal
 taken_plain t [] a = (tt, tt)
 taken_plain t (counted f counts ∷ h) a =
-    let b = taken_plain _ h a.1 in
+    let b = taken_plain (tandem_by t (called (counted f counts))) h a.1 in
     let rest = subst (λ (s : Supervisor). Accepted s (plainly h)) (ap base_of (frame_accepted t f counts a.0)) b.0 in
     ((plain_accepts t f counts a.0, rest), (counts_low t f counts a.0, b.1))
 taken_plain t (closed ∷ h) a =
-    let b = taken_plain _ h a.1 in
+    let b = taken_plain (tandem_by t (called closed)) h a.1 in
     ((sym (mark_refusal_lem t) ∙ a.0, subst (λ (s : Supervisor). Accepted s (plainly h)) (ap base_of (mark_accepted t a.0)) b.0), b.1)
 
 plain_taken : (t : Tandem) (h : List LevelEvent) → Accepted t.base (plainly h) → Low h → AllTaken t (map called h)
@@ -109,10 +109,10 @@ unfolding tandem_by event_of plain_refusal
 plain_taken t [] a l = tt
 plain_taken t (counted f counts ∷ h) a l =
     let e : refusal_at t f counts ≡ 0 = refusal_same t f counts l.0 ∙ a.0 in
-    (e, plain_taken _ h (subst⁻¹ (λ (s : Supervisor). Accepted s (plainly h)) (ap base_of (frame_accepted t f counts e)) a.1) l.1)
+    (e, plain_taken (tandem_by t (called (counted f counts))) h (subst⁻¹ (λ (s : Supervisor). Accepted s (plainly h)) (ap base_of (frame_accepted t f counts e)) a.1) l.1)
 plain_taken t (closed ∷ h) a l =
     let e : (marked_of t).refusal ≡ 0 = mark_refusal_lem t ∙ a.0 in
-    (e, plain_taken _ h (subst⁻¹ (λ (s : Supervisor). Accepted s (plainly h)) (ap base_of (mark_accepted t e)) a.1) l)
+    (e, plain_taken (tandem_by t (called closed)) h (subst⁻¹ (λ (s : Supervisor). Accepted s (plainly h)) (ap base_of (mark_accepted t e)) a.1) l)
 
 pub level_acceptance : LevelAcceptance
 level_acceptance p v t fresh h = (

@@ -271,10 +271,10 @@ module _ (p : Settings) (n : ℕ) (low : 1 ≤ n) (high : n ≤ 6) where
   is_after t w h (gives m r names ∷ cs) i a =
       let c : Fits t m r names = give_fits t m r names a.0 in
       subst (λ (v : Provisioned). Is (tandem_after t (gives m r names ∷ cs)) v (reverse_aux (events_of cs) h)) (given_first t w h m r names (provisioned n cs) i c)
-      (is_after _ _ h cs (is_given _ t w h m r names a.0 i c (six_call t (gives m r names) i.six)) a.1)
+      (is_after (tandem_by t (gives m r names)) _ h cs (is_given _ t w h m r names a.0 i c (six_call t (gives m r names) i.six)) a.1)
   is_after t w h (records m r names ∷ cs) i a =
       let c : Fits t m r names = record_fits t m r names a.0 in
       subst (λ (v : Provisioned). Is (tandem_after t (records m r names ∷ cs)) v (reverse_aux (events_of cs) h)) (given_first t w h m r names (provisioned n cs) i c)
-      (is_after _ _ h cs (is_given _ t w h m r names a.0 i c (six_call t (records m r names) i.six)) a.1)
-  is_after t w h (frames f counts ∷ cs) i a = is_after _ w (counted f counts ∷ h) cs (is_frame t w h f counts i a.0) a.1
-  is_after t w h (closes ∷ cs) i a = is_after _ w (closed ∷ h) cs (is_mark t w h i a.0) a.1
+      (is_after (tandem_by t (records m r names)) _ h cs (is_given _ t w h m r names a.0 i c (six_call t (records m r names) i.six)) a.1)
+  is_after t w h (frames f counts ∷ cs) i a = is_after (tandem_by t (frames f counts)) w (counted f counts ∷ h) cs (is_frame t w h f counts i a.0) a.1
+  is_after t w h (closes ∷ cs) i a = is_after (tandem_by t closes) w (closed ∷ h) cs (is_mark t w h i a.0) a.1

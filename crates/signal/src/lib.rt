@@ -24,6 +24,7 @@ pub enum Signal {
 }
 
 // The signal of a three-bit STAT number.
+#[tactic(auto, unfolding(crate::specs::Signal::signal_of))]
 fn signal_of(stat: u8) -> Signal
     ensures { result ≡ signal_of stat }
 {
@@ -37,6 +38,7 @@ fn signal_of(stat: u8) -> Signal
 }
 
 // The signal that stands: none until a STAT is accepted.
+#[tactic(auto, unfolding(crate::specs::Signal::stands_for))]
 pub fn stands_for(s: Stat) -> Signal
     ensures { result ≡ stands_for s }
 {
@@ -73,6 +75,7 @@ pub fn raised_by(s: Signal) -> Raised
 }
 
 // The defects that stand by a STAT, none until one is accepted: the same by its number, with no case of the signal, so that a lookup by the three has no branch.
+#[tactic(auto, using(crate::proofs::Codes::by_number))]
 pub fn raised_in(s: Stat) -> Raised
     ensures { result ≡ raised_of (stands_for s) }
 {

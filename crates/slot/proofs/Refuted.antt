@@ -1,14 +1,11 @@
 -- Answers that tempting readings give, shut out by the contract of this crate. Assumes nothing.
-use mathlib.Core.Path.{◌≡◌, sym, ap, ◌∙◌}
-use mathlib.Core.Bool.{Bool, true, false}
-use mathlib.Core.List.{◌∷◌}
+use mathlib.Core.Path.{◌≡◌, ap, ◌∙◌}
+use mathlib.Core.Bool.{true}
 use lib.ListN.{replicate}
 use contract.Lifetimes.{Lfts}
 use borrow.Fn.Kinds.{Dens, ended_of}
 use denote.Triple.Clauses.{AtExit}
 use Rattle.answer.proofs.Cond.{not_so}
-use Rattle.words.specs.Words.{words_of}
-use Rattle.ranges.specs.Sound.{below}
 use Rattle.slot.specs.Slot.{slot_sound}
 use Rattle.slot.proofs.is_slot.Kinds as is_slot_kinds
 use Rattle.slot.proofs.is_slot.Reads as is_slot_reads

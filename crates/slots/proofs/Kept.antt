@@ -18,7 +18,7 @@ use Rattle.second.specs.declared.Blocks.{Blocks}
 use Rattle.second.specs.declared.Second.{Second}
 use Rattle.second.specs.Second.{discard_of, closed_of, figures_of}
 use Rattle.supervisor.specs.Supervisor.{fresh_of, mark_of}
-use Rattle.history.specs.Ranges.{BlocksIn, AllAtMost, SecondIn, Ranged}
+use Rattle.history.specs.Ranges.{BlocksIn, AllAtMost, SecondIn}
 use Rattle.tandem.specs.Levels.{five_of, level_figures}
 use Rattle.tandem.specs.Tandem.{fresh_tandem, marked_of}
 use Rattle.tandem.specs.declared.Level.{Level}
@@ -172,17 +172,17 @@ fresh_in : (p : Settings) → SettingsIn p → LateIn (fresh_late (fresh_tandem 
 unfolding below
 fresh_in p i = record { tandem = tandem_kept.fresh p i; pending = refl }
 
-handed_in : (s : Late) → LateIn s → (cs : List LevelCall) → CallBytes cs → LateIn (late_after s cs)
+handed_in : (cs : List LevelCall) (s : Late) → LateIn s → CallBytes cs → LateIn (late_after s cs)
 unfolding late_after late_by tandem_by
-handed_in s i [] b = i
-handed_in s i (gives n r names ∷ cs) b = handed_in _ (record { tandem = tandem_kept.given s.tandem i.tandem n r names; pending = i.pending }) cs b
-handed_in s i (records n r names ∷ cs) b = handed_in _ (record { tandem = tandem_kept.recorded s.tandem i.tandem n r names; pending = i.pending }) cs b
-handed_in s i (frames f counts ∷ cs) b = handed_in _ (record { tandem = tandem_kept.framed s.tandem i.tandem f counts b.0; pending = i.pending }) cs b.1
-handed_in s i (marks ∷ cs) b = handed_in _ (marked_in_lem s i) cs b
+handed_in [] s i b = i
+handed_in (gives n r names ∷ cs) s i b = handed_in cs _ (record { tandem = tandem_kept.given s.tandem i.tandem n r names; pending = i.pending }) b
+handed_in (records n r names ∷ cs) s i b = handed_in cs _ (record { tandem = tandem_kept.recorded s.tandem i.tandem n r names; pending = i.pending }) b
+handed_in (frames f counts ∷ cs) s i b = handed_in cs _ (record { tandem = tandem_kept.framed s.tandem i.tandem f counts b.0; pending = i.pending }) b.1
+handed_in (marks ∷ cs) s i b = handed_in cs _ (marked_in_lem s i) b
 
 pub late_kept : LateKept
 late_kept = record {
   fresh = fresh_in;
   marked = marked_in_lem;
-  always = λ p i cs b. handed_in (fresh_late (fresh_tandem (fresh_of p))) (fresh_in p i) cs b;
+  always = λ p i cs b. handed_in cs (fresh_late (fresh_tandem (fresh_of p))) (fresh_in p i) b;
 }

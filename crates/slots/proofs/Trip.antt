@@ -8,11 +8,11 @@ use lib.ListN.{length, take, drop, length-append, take-append-drop}
 use lib.Seq.{take_at, drop_at}
 use borrow.Author.Tests.{eq-eqb, eqb-true}
 use Rattle.answer.proofs.Cond.{and_left, and_right}
-use Rattle.words.specs.Words.{flat, words_of}
+use Rattle.words.specs.Words.{flat}
 use Rattle.numbers.proofs.Strips.{both}
 use Rattle.slot.specs.Slot.{slot_sound}
 use Rattle.late.specs.declared.Late.{Late}
-use Rattle.bays.specs.Image.{tandem_bytes, tandem_from, tandem_sound}
+use Rattle.bays.specs.Image.{tandem_bytes, tandem_sound}
 use Rattle.bays.proofs.Trip.{same_tandem, tandem_trip}
 use Rattle.slots.specs.Image.{late_bytes, late_from, late_sound}
 use Rattle.slots.specs.Ranges.{LateIn, SameLate, LateTrip}

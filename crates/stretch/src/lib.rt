@@ -1,3 +1,2 @@
 // No code: the summaries of stretches of a history.
 #![tactic(auto)]
-

@@ -35,6 +35,7 @@ pub struct Joined {
 }
 
 // A layer's five within their bounds.
+#[tactic(auto, unfolding(crate::specs::Summary::five_good))]
 fn five_good(f: Five, most: u64, sums: u64, length: u64) -> bool
     ensures { result ≡ five_good f most sums length }
 {
@@ -45,6 +46,7 @@ fn five_good(f: Five, most: u64, sums: u64, length: u64) -> bool
         & (f.sum <= sums)
 }
 
+#[tactic(auto, unfolding(crate::specs::Summary::heads_good))]
 fn heads_good(h: [u64; 10], most: u64) -> bool
     ensures { result ≡ heads_good h most }
 {
@@ -61,6 +63,7 @@ fn heads_good(h: [u64; 10], most: u64) -> bool
 }
 
 // Whether it is a summary: its length first, so that no sum and no product is beyond 64 bits.
+#[tactic(auto, unfolding(crate::specs::Summary::valid_of))]
 pub fn valid(s: Summary) -> bool
     ensures { result ≡ valid_of s }
 {
@@ -182,6 +185,7 @@ fn first_of(length: u64, a: u64, b: u64) -> u64
 }
 
 // Two summaries added up.
+#[tactic(auto, using(crate::proofs::Bounds::valid_low, crate::proofs::Bounds::low_of), unfolding(crate::specs::Summary::added_of))]
 fn added(a: Summary, b: Summary) -> Summary
     requires a_value { valid_of a ≡ true }
     requires b_value { valid_of b ≡ true }
@@ -210,6 +214,7 @@ fn added(a: Summary, b: Summary) -> Summary
 }
 
 // The refusals but 26 of two summaries.
+#[tactic(auto, using(crate::proofs::Bounds::valid_low), unfolding(crate::specs::Summary::place_refusal, crate::specs::Summary::follows_on))]
 fn place_refusal(a: Summary, b: Summary) -> u8
     requires a_value { valid_of a ≡ true }
     requires b_value { valid_of b ≡ true }
@@ -221,6 +226,7 @@ fn place_refusal(a: Summary, b: Summary) -> u8
 }
 
 // Two summaries joined, where the second follows on from the first.
+#[tactic(auto, using(crate::proofs::Joins::joins, crate::proofs::Joins::misplaced, crate::proofs::Joins::not_both))]
 pub fn join(a: Summary, b: Summary) -> Joined
     ensures { result ≡ join_of a b }
 {
@@ -278,6 +284,7 @@ fn heads_in(f: [u32; 22]) -> [u64; 10]
 }
 
 // One second by its 22 figures, as a stretch of one.
+#[tactic(auto, unfolding(crate::specs::Summary::second_of))]
 pub fn second_of(f: [u32; 22]) -> Summary
     ensures { result ≡ second_of f }
 {

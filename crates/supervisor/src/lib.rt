@@ -64,6 +64,7 @@ fn fresh(s: Settings) -> Supervisor
 }
 
 // The refusal of a frame, 0 where it is accepted.
+#[tactic(auto, unfolding(crate::specs::Supervisor::step_refusal))]
 fn step_refusal(s: Supervisor, overhead: &[u8], flags: u8, sm: u8, pm: u8) -> u8
     ensures { result ≡ step_refusal s overhead.now flags sm pm }
 {
@@ -74,6 +75,7 @@ fn step_refusal(s: Supervisor, overhead: &[u8], flags: u8, sm: u8, pm: u8) -> u8
 }
 
 // One frame.
+#[tactic(auto, unfolding(crate::specs::Supervisor::step_of, crate::specs::Supervisor::frame_of, crate::specs::Supervisor::stands_after))]
 pub fn step(s: Supervisor, overhead: &[u8], flags: u8, sm: u8, pm: u8) -> Stepped
     ensures { result ≡ step_of s overhead.now flags sm pm }
 {
@@ -119,6 +121,7 @@ fn degrade(l: Layer, p: Options, near: u32) -> Layer
 }
 
 // A mark: the second is closed and the next one opened.
+#[tactic(auto, unfolding(crate::specs::Supervisor::mark_of, crate::specs::Supervisor::next_second))]
 pub fn mark(s: Supervisor) -> Marked
     ensures { result ≡ mark_of s }
 {
@@ -171,6 +174,7 @@ fn layer_at(s: Supervisor, layer: u8) -> Layer
 }
 
 // The accepted trace of a layer.
+#[tactic(auto, unfolding(crate::specs::Supervisor::traced_of, crate::specs::Supervisor::trace_refusal))]
 pub fn trace_of(s: Supervisor, layer: u8) -> Traced
     ensures { result ≡ traced_of s layer }
 {
@@ -216,6 +220,7 @@ pub fn blank() -> Supervisor
 }
 
 // 32 bytes by value.
+#[tactic(auto, using(answer::proofs::Copies::grow, answer::proofs::Copies::whole))]
 fn names_of(names: &[u8]) -> [u8; 32]
     requires { length names.now ≡ 32 }
     ensures { result ≡ names.now }
@@ -228,6 +233,7 @@ fn names_of(names: &[u8]) -> [u8; 32]
 }
 
 // A fresh supervisor, as provisioned.
+#[tactic(auto, unfolding(crate::specs::Supervisor::provision_of))]
 pub fn provision(
     k: u8,
     section: Request,

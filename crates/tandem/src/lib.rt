@@ -151,6 +151,7 @@ fn is_begun(s: Supervisor) -> bool
 }
 
 // The refusals 6 to 10 of a level's provisioning; DEGThr of a k that is none of the three is held to that of 3.
+#[tactic(auto, using(crate::proofs::Refusals::request_same, crate::proofs::Refusals::request_other))]
 fn request_refusal(k: u8, r: Request, names: &[u8]) -> u8
     ensures { result ≡ request_refusal k r names.now }
 {
@@ -169,6 +170,7 @@ fn is_free(ls: [Level; 6], n: u8) -> bool
 }
 
 // The refusal of a level's provisioning from C: in number order.
+#[tactic(auto, unfolding(crate::specs::Tandem::give_refusal, crate::specs::Tandem::request_refusal))]
 fn give_refusal(t: Tandem, n: u8, r: Request, names: &[u8]) -> u8
     ensures { result ≡ give_refusal t n r names.now }
 {
@@ -183,6 +185,7 @@ fn give_refusal(t: Tandem, n: u8, r: Request, names: &[u8]) -> u8
 }
 
 // The refusal of a level's provisioning by a record: 16 and 18 ahead of the rest.
+#[tactic(auto, unfolding(crate::specs::Tandem::record_refusal, crate::specs::Tandem::request_refusal))]
 fn record_refusal(t: Tandem, n: u8, r: Request, names: &[u8]) -> u8
     ensures { result ≡ record_refusal t n r names.now }
 {
@@ -196,6 +199,7 @@ fn record_refusal(t: Tandem, n: u8, r: Request, names: &[u8]) -> u8
 }
 
 // Level n provisioned.
+#[tactic(auto, using(codec::proofs::Overs::all_in))]
 fn with_level(t: Tandem, n: u8, r: Request, names: &[u8]) -> Tandem
     requires { length names.now ≡ 32 }
     ensures { result ≡ with_level t n r names.now }
@@ -211,6 +215,7 @@ fn with_level(t: Tandem, n: u8, r: Request, names: &[u8]) -> Tandem
 }
 
 // A level provisioned from C.
+#[tactic(auto, using(crate::proofs::Refusals::give_names), unfolding(crate::specs::Tandem::given_by))]
 pub fn give(t: Tandem, n: u8, r: Request, names: &[u8]) -> Given
     ensures { result ≡ give_of t n r names.now }
 {
@@ -229,6 +234,7 @@ pub fn give(t: Tandem, n: u8, r: Request, names: &[u8]) -> Given
 }
 
 // A level provisioned by a record of a trace.
+#[tactic(auto, using(crate::proofs::Refusals::record_names), unfolding(crate::specs::Tandem::given_by))]
 pub fn give_record(t: Tandem, n: u8, r: Request, names: &[u8]) -> Given
     ensures { result ≡ recorded_of t n r names.now }
 {
@@ -247,6 +253,7 @@ pub fn give_record(t: Tandem, n: u8, r: Request, names: &[u8]) -> Given
 }
 
 // A level after a frame, where it is provisioned.
+#[tactic(auto, unfolding(crate::specs::Levels::stepped_level))]
 fn one_step(l: Level, ssf: bool, m: Multi, f: Field, violations: u8) -> Level
     ensures { result ≡ stepped_level l ssf m f violations }
 {
@@ -301,6 +308,7 @@ pub fn nothing_stands() -> LevelStands
 }
 
 // What stands of a level; nothing where it is not provisioned.
+#[tactic(auto, unfolding(crate::specs::Tandem::level_shown))]
 fn shown(l: Level, ssf: bool) -> LevelStands
     ensures { result ≡ level_shown l ssf }
 {
@@ -313,6 +321,7 @@ fn shown(l: Level, ssf: bool) -> LevelStands
 }
 
 // What stands of each of the six levels.
+#[tactic(auto, using(answer::proofs::Each::turned))]
 fn levels_shown(ls: [Level; 6], ssf: bool) -> [LevelStands; 6]
     ensures { result ≡ shown_levels ls ssf }
 {
@@ -329,6 +338,7 @@ fn levels_shown(ls: [Level; 6], ssf: bool) -> [LevelStands; 6]
 }
 
 // Each of the six counts is at most 8.
+#[tactic(auto, unfolding(crate::specs::Levels::low_to))]
 fn all_low(counts: [u8; 6]) -> bool
     ensures { result ≡ low_to 6 counts }
 {
@@ -341,6 +351,7 @@ fn all_low(counts: [u8; 6]) -> bool
 }
 
 // The refusal of a frame, 0 where it is accepted.
+#[tactic(auto, unfolding(crate::specs::Tandem::frame_refusal))]
 fn frame_refusal(t: Tandem, overhead: &[u8], flags: u8, sm: u8, pm: u8, counts: [u8; 6]) -> u8
     ensures { result ≡ frame_refusal t overhead.now flags sm pm counts }
 {
@@ -352,6 +363,7 @@ fn frame_refusal(t: Tandem, overhead: &[u8], flags: u8, sm: u8, pm: u8, counts: 
 }
 
 // One frame; `counts` are the violation counts of levels 1 to 6.
+#[tactic(auto, unfolding(crate::specs::Tandem::framed_of))]
 pub fn step(t: Tandem, overhead: &[u8], flags: u8, sm: u8, pm: u8, counts: [u8; 6]) -> TandemStepped
     ensures { result ≡ framed_of t overhead.now flags sm pm counts }
 {
@@ -388,6 +400,7 @@ pub fn step(t: Tandem, overhead: &[u8], flags: u8, sm: u8, pm: u8, counts: [u8; 
 }
 
 // A level after a mark, where it is provisioned.
+#[tactic(auto, unfolding(crate::specs::Levels::marked_level))]
 fn one_mark(l: Level) -> Level
     ensures { result ≡ marked_level l }
 {
@@ -423,6 +436,7 @@ fn levels_mark(ls: [Level; 6]) -> [Level; 6]
 }
 
 // The five figures of a level, zeros where it is not provisioned.
+#[tactic(auto, unfolding(crate::specs::Levels::five_of))]
 fn five_of(l: Level) -> [u32; 5]
     ensures { result ≡ five_of l }
 {
@@ -435,6 +449,7 @@ fn five_of(l: Level) -> [u32; 5]
 }
 
 // Numbers written over others from a place on.
+#[tactic(auto, using(answer::proofs::Overs::over_nil, answer::proofs::Overs::over_suc))]
 fn put(out: &mut [u32], at: usize, src: &[u32])
     requires { at + length src.now ≤ length out.old }
     ensures { out.new ≡ over out.old at src.now }
@@ -445,6 +460,7 @@ fn put(out: &mut [u32], at: usize, src: &[u32])
 }
 
 // The figures of a mark: the supervisor's, then the levels'.
+#[tactic(auto, using(answer::proofs::Overs::over_nil), unfolding(crate::specs::Levels::level_figures))]
 fn figures_of(base: [u32; 22], ls: [Level; 6]) -> [u32; 52]
     ensures { result ≡ base ++ level_figures ls }
 {
@@ -459,6 +475,7 @@ fn figures_of(base: [u32; 22], ls: [Level; 6]) -> [u32; 52]
 }
 
 // A mark.
+#[tactic(auto, unfolding(crate::specs::Tandem::marked_of))]
 pub fn mark(t: Tandem) -> TandemMarked
     ensures { result ≡ marked_of t }
 {
@@ -488,6 +505,7 @@ pub fn mark(t: Tandem) -> TandemMarked
 }
 
 // A level's figures written over others from a place on, where it is provisioned; the place behind them is handed back.
+#[tactic(auto, using(answer::proofs::Overs::over_nil))]
 fn put_group(out: &mut [u32], at: usize, given: bool, five: &[u32]) -> usize
     requires { at + length five.now ≤ length out.old }
     ensures { (out.new ≡ over out.old at (cond given five.now [])) × (result ≡ at + length (cond given five.now [])) }
@@ -500,6 +518,7 @@ fn put_group(out: &mut [u32], at: usize, given: bool, five: &[u32]) -> usize
 }
 
 // The figures of an S line, of those of a mark: the twenty-two, then the five of each provisioned level.
+#[tactic(auto, unfolding(crate::specs::Levels::given_groups))]
 pub fn listed_figures(ls: [Level; 6], figures: [u32; 52]) -> Listed
     ensures { result ≡ listed_in (listed_of ls figures) }
 {
@@ -514,6 +533,7 @@ pub fn listed_figures(ls: [Level; 6], figures: [u32; 52]) -> Listed
 }
 
 // The path's SSF as it stands.
+#[tactic(auto, unfolding(crate::specs::Tandem::ssf_now, frame::specs::Layers::standing_of, frame::specs::Layers::section_stands))]
 fn ssf_now(s: Supervisor, flags: u8) -> bool
     ensures { result ≡ ssf_now s flags }
 {
@@ -529,6 +549,7 @@ fn ssf_now(s: Supervisor, flags: u8) -> bool
 }
 
 // What is told of level n.
+#[tactic(auto, unfolding(crate::specs::Tandem::level_report))]
 pub fn level_report(t: Tandem, n: u8) -> LevelReport
     ensures { result ≡ level_report t n }
 {
@@ -550,6 +571,7 @@ pub fn level_report(t: Tandem, n: u8) -> LevelReport
 }
 
 // The accepted trace of level n.
+#[tactic(auto, unfolding(crate::specs::Tandem::level_traced))]
 pub fn level_trace(t: Tandem, n: u8) -> Traced
     ensures { result ≡ level_traced t n }
 {

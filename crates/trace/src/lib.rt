@@ -80,6 +80,7 @@ fn refused(st: State, number: u8) -> Taken
 }
 
 // A record answered by a call: where the call refuses, so is the record.
+#[tactic(auto, unfolding(crate::specs::Scan::answered_of))]
 fn answered(st: State, refusal: u8, told: bool, next: State) -> Taken
     ensures { result ≡ answered_of st refusal told next }
 {
@@ -94,6 +95,7 @@ fn answered(st: State, refusal: u8, told: bool, next: State) -> Taken
 }
 
 // A frame handed to the supervisor, with the counts of levels 1 to 6.
+#[tactic(auto, unfolding(crate::specs::Scan::stepped_of))]
 fn stepped(st: State, kind: u8, body: &[u8], counts: [u8; 6]) -> Taken
     requires { 67 ≤ length body.now }
     ensures { result ≡ stepped_of st kind body.now counts }
@@ -120,6 +122,7 @@ fn stepped(st: State, kind: u8, body: &[u8], counts: [u8; 6]) -> Taken
 }
 
 // A frame of kind 1 or 5 taken: refusals 16 and 19 come before the supervisor's.
+#[tactic(auto, unfolding(crate::specs::Scan::framed_of))]
 fn take_frame(st: State, kind: u8, body: &[u8], counts: [u8; 6]) -> Taken
     requires { 67 ≤ length body.now }
     ensures { result ≡ framed_of st kind body.now counts }
@@ -141,6 +144,7 @@ fn counts_in(body: &[u8]) -> [u8; 6]
     [body[67], body[68], body[69], body[70], body[71], body[72]]
 }
 
+#[tactic(auto, unfolding(crate::specs::Scan::marked_of))]
 fn take_mark(st: State) -> Taken
     ensures { result ≡ marked_of st }
 {
@@ -158,6 +162,7 @@ fn take_mark(st: State) -> Taken
     refused(st, 16)
 }
 
+#[tactic(auto, unfolding(crate::specs::Scan::provisioned_of))]
 fn take_provisioning(st: State, body: &[u8]) -> Taken
     requires { length body.now ≡ 79 }
     ensures { result ≡ provisioned_of st body.now }
@@ -178,6 +183,7 @@ fn take_provisioning(st: State, body: &[u8]) -> Taken
 }
 
 // A level's provisioning taken: before the first frame or mark.
+#[tactic(auto, unfolding(crate::specs::Scan::given_of))]
 fn take_level(st: State, body: &[u8]) -> Taken
     requires { length body.now ≡ 40 }
     ensures { result ≡ given_of st body.now }

@@ -137,8 +137,8 @@ module _ (n : ℕ) (low : 1 ≤ n) (high : n ≤ 6) where
   only t (records m r names ∷ cs) all g never =
       let h = given_keeps _ t m r names (and_left (not (eqb m n)) (never_given n cs) never) g in
       only _ cs (six_call t (records m r names) all) h (and_right (not (eqb m n)) (never_given n cs) never)
-  only t (frames f counts ∷ cs) all g never = only _ cs (six_framed t f counts all) (framed_keeps t f counts all g) never
-  only t (marks ∷ cs) all g never = only _ cs (six_marked t all) (marked_keeps t all g) never
+  only t (frames f counts ∷ cs) all g never = only (tandem_by t (frames f counts)) cs (six_framed t f counts all) (framed_keeps t f counts all g) never
+  only t (marks ∷ cs) all g never = only (tandem_by t marks) cs (six_marked t all) (marked_keeps t all g) never
 
   -- nothing is told of a level that is not provisioned
   pub blank_fresh : level_at (replicate 6 blank_level) n ≡ blank_level

@@ -33,16 +33,16 @@ pub plain_of : (t : Tandem) (cs : List LevelCall) → AllTaken t cs → Plain t 
 unfolding tandem_after tandem_by events_among after event_of plain_refusal
 plain_of t [] a = record { accepted = tt; base = refl }
 plain_of t (gives n r names ∷ cs) a =
-    let i = plain_next t.base _ cs (given_base _ t n r names) (plain_of _ cs a.1) in
+    let i = plain_next t.base _ cs (given_base _ t n r names) (plain_of (tandem_by t (gives n r names)) cs a.1) in
     record { accepted = i.0; base = i.1 }
 plain_of t (records n r names ∷ cs) a =
-    let i = plain_next t.base _ cs (given_base _ t n r names) (plain_of _ cs a.1) in
+    let i = plain_next t.base _ cs (given_base _ t n r names) (plain_of (tandem_by t (records n r names)) cs a.1) in
     record { accepted = i.0; base = i.1 }
 plain_of t (frames f counts ∷ cs) a =
     let e = ap (λ (u : Tandem). u.base) (frame_accepted t f counts a.0) in
-    let i = plain_next (event_of t.base (frame f)) _ cs e (plain_of _ cs a.1) in
+    let i = plain_next (event_of t.base (frame f)) _ cs e (plain_of (tandem_by t (frames f counts)) cs a.1) in
     record { accepted = (plain_accepts t f counts a.0, i.0); base = i.1 }
 plain_of t (marks ∷ cs) a =
     let e = ap (λ (u : Tandem). u.base) (mark_accepted t a.0) in
-    let i = plain_next (event_of t.base mark) _ cs e (plain_of _ cs a.1) in
+    let i = plain_next (event_of t.base mark) _ cs e (plain_of (tandem_by t marks) cs a.1) in
     record { accepted = (sym (mark_refusal_lem t) ∙ a.0, i.0); base = i.1 }

@@ -102,6 +102,7 @@ fn path_caused(c: PathCauses) -> u64
 }
 
 // The report's number.
+#[tactic(auto, unfolding(crate::specs::Report::report_word))]
 pub fn report_word(r: Report) -> u64
     ensures { result ≡ report_word r }
 {
@@ -172,6 +173,7 @@ fn level_caused(c: LevelCauses) -> u64
 }
 
 // What is told of a level as a number.
+#[tactic(auto, unfolding(crate::specs::Level::level_word))]
 pub fn level_word(given: bool, d: LevelStands, a: LevelActions, c: LevelCauses) -> u64
     ensures { result ≡ level_word given d a c }
 {

@@ -30,6 +30,7 @@ fn word_at(b: &[u8], at: usize) -> u32
 }
 
 // w becomes the words of b from `at`.
+#[tactic(auto, using(answer::proofs::Copies::grow, answer::proofs::Copies::whole, crate::proofs::Words::word_of, crate::proofs::Words::word_at_drop, crate::proofs::Words::length_words))]
 fn read_words(w: &mut [u32], b: &[u8], at: usize)
     requires { at + length w.old * 4 ≤ length b.now }
     ensures { w.new ≡ words_of (length w.old) (drop at b.now) }
@@ -40,6 +41,7 @@ fn read_words(w: &mut [u32], b: &[u8], at: usize)
 }
 
 // The four bytes of x from `at`.
+#[tactic(auto, using(crate::proofs::Words::put4))]
 fn put_word(b: &mut [u8], at: usize, x: u32)
     requires { at + 4 ≤ length b.old }
     ensures { b.new ≡ over b.old at (le4 x) }
@@ -51,6 +53,7 @@ fn put_word(b: &mut [u8], at: usize, x: u32)
 }
 
 // The bytes of the words from `at`.
+#[tactic(auto, using(answer::proofs::Overs::over_nil, crate::proofs::Words::over_word), unfolding(crate::specs::Words::flat))]
 fn put_words(b: &mut [u8], at: usize, w: &[u32])
     requires { at + length w.now * 4 ≤ length b.old }
     ensures { b.new ≡ over b.old at (flat w.now) }
@@ -61,6 +64,7 @@ fn put_words(b: &mut [u8], at: usize, w: &[u32])
 }
 
 // Twelve words of b from `at`.
+#[tactic(auto, using(crate::proofs::Words::words_room, crate::proofs::Words::words_beyond))]
 pub fn words_in(b: &[u8], at: u32) -> [u32; 12]
     ensures { result ≡ words_in 12 at b.now }
 {
@@ -74,6 +78,7 @@ pub fn words_in(b: &[u8], at: u32) -> [u32; 12]
 }
 
 // Fifty-one words of b from `at`: what a pending second holds.
+#[tactic(auto, using(crate::proofs::Words::words_room, crate::proofs::Words::words_beyond))]
 pub fn figures_in(b: &[u8], at: u32) -> [u32; 51]
     ensures { result ≡ words_in 51 at b.now }
 {
@@ -87,6 +92,7 @@ pub fn figures_in(b: &[u8], at: u32) -> [u32; 51]
 }
 
 // Twenty-two words of b from `at`: a second's figures of line, section and path.
+#[tactic(auto, using(crate::proofs::Words::words_room, crate::proofs::Words::words_beyond))]
 pub fn second_in(b: &[u8], at: u32) -> [u32; 22]
     ensures { result ≡ words_in 22 at b.now }
 {
@@ -100,6 +106,7 @@ pub fn second_in(b: &[u8], at: u32) -> [u32; 22]
 }
 
 // Twelve words laid over b from `at`.
+#[tactic(auto, using(codec::proofs::Overs::laid_done, codec::proofs::Overs::laid_kept, crate::proofs::Words::length_flat))]
 pub fn lay_words(b: &mut [u8], at: u32, w: [u32; 12])
     ensures { b.new ≡ laid b.old at (flat w) }
 {
@@ -110,6 +117,7 @@ pub fn lay_words(b: &mut [u8], at: u32, w: [u32; 12])
 }
 
 // The 208 bytes of twenty-two words and of thirty behind them.
+#[tactic(auto, using(crate::proofs::Words::over_two))]
 pub fn record_of(v: [u32; 22], w: [u32; 30]) -> [u8; 208]
     ensures { result ≡ flat (v ++ w) }
 {
@@ -120,6 +128,7 @@ pub fn record_of(v: [u32; 22], w: [u32; 30]) -> [u8; 208]
 }
 
 // The 208 bytes of a word and of fifty-one behind it.
+#[tactic(auto, using(crate::proofs::Words::over_two), unfolding(crate::specs::Words::flat))]
 pub fn numbered_record(number: u32, v: [u32; 51]) -> [u8; 208]
     ensures { result ≡ flat (number ∷ v) }
 {
@@ -130,6 +139,7 @@ pub fn numbered_record(number: u32, v: [u32; 51]) -> [u8; 208]
 }
 
 // Whether each number lies in its range.
+#[tactic(auto, using(crate::proofs::Ranges::inside_step, crate::proofs::Ranges::inside_end, crate::proofs::Ranges::and_three, crate::proofs::Ranges::and_true))]
 pub fn in_range(lo: [u32; 12], hi: [u32; 12], w: [u32; 12]) -> bool
     ensures { result ≡ inside lo hi w }
 {
@@ -144,6 +154,7 @@ pub fn in_range(lo: [u32; 12], hi: [u32; 12], w: [u32; 12]) -> bool
 }
 
 // One more in word i, and `most` at most.
+#[tactic(auto, using(crate::proofs::Words::counted, crate::proofs::Words::counted_not))]
 pub fn count_at(b: &mut [u8], i: u32, most: u32)
     ensures { b.new ≡ counted_in b.old i most }
 {
@@ -156,6 +167,7 @@ pub fn count_at(b: &mut [u8], i: u32, most: u32)
 }
 
 // So many more in word i, and `most` at most.
+#[tactic(auto, using(crate::proofs::Words::added, crate::proofs::Words::added_not))]
 pub fn add_at(b: &mut [u8], i: u32, more: u32, most: u32)
     ensures { b.new ≡ added_in b.old i more most }
 {
@@ -184,6 +196,7 @@ fn number_at(b: &[u8], at: usize) -> u64
 }
 
 // v becomes the numbers of b.
+#[tactic(auto, using(answer::proofs::Copies::grow, answer::proofs::Copies::whole, crate::proofs::Words::number_of, crate::proofs::Words::length_numbers))]
 fn read_numbers(v: &mut [u64], b: &[u8])
     requires { length v.old * 8 ≤ length b.now }
     ensures { v.new ≡ numbers_of (length v.old) b.now }
@@ -194,6 +207,7 @@ fn read_numbers(v: &mut [u64], b: &[u8])
 }
 
 // The first 23 numbers of 64 bits of b.
+#[tactic(auto, using(crate::proofs::Words::numbers_room, crate::proofs::Words::numbers_beyond))]
 pub fn numbers_in(b: &[u8]) -> [u64; 23]
     ensures { result ≡ numbers_in 23 b.now }
 {
@@ -206,6 +220,7 @@ pub fn numbers_in(b: &[u8]) -> [u64; 23]
 }
 
 // The eight bytes of x from `at`.
+#[tactic(auto, using(crate::proofs::Words::over_halves))]
 fn put_number(b: &mut [u8], at: usize, x: u64)
     requires { at + 8 ≤ length b.old }
     ensures { b.new ≡ over b.old at (le8 x) }
@@ -215,6 +230,7 @@ fn put_number(b: &mut [u8], at: usize, x: u64)
 }
 
 // The bytes of the numbers.
+#[tactic(auto, using(answer::proofs::Overs::over_nil, crate::proofs::Words::over_number), unfolding(crate::specs::Words::flat8))]
 fn put_numbers(b: &mut [u8], v: &[u64])
     requires { length v.now * 8 ≤ length b.old }
     ensures { b.new ≡ over b.old 0 (flat8 v.now) }
@@ -225,6 +241,7 @@ fn put_numbers(b: &mut [u8], v: &[u64])
 }
 
 // The 184 bytes of 23 numbers of 64 bits.
+#[tactic(auto, using(codec::proofs::Overs::over_all, crate::proofs::Words::length_flat8))]
 pub fn bytes_of(v: [u64; 23]) -> [u8; 184]
     ensures { result ≡ flat8 v }
 {

@@ -1,0 +1,8 @@
+use mathlib.Core.Path.{sym, ◌∙◌}
+use Rattle.bay.proofs.Fresh.{blank_sound}
+use Rattle.bay.proofs.record_sound.Goals as goal
+
+pub returns-then-is_blank : goal.returns-then-is_blank
+returns-then-is_blank c =
+    let a = c.args in
+    sym (blank_sound _ a.given c.requires (sym c.is_blank.ensures ∙ c.if-is_blank.true))
