@@ -11,7 +11,7 @@
    but what C cannot tell: each pointer is good for its length, and buffers that a call writes do not overlap the others. A buffer
    of length 0 may have any pointer, NULL too.
 
-   The calls keep nothing between them: no global state, no allocation, no lock; the archive needs memcpy and nothing else. Two
+   The calls keep nothing between them: no global state, no allocation, no lock; the archive needs memcpy and memset and nothing else. Two
    supervisors may be called at the same time, one supervisor may not. A supervisor may be copied, stored and moved between machines
    as bytes. One that was stored before there were sums of the far end's violations has 2620 bytes, and is 17 by its length.
 

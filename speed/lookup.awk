@@ -1,7 +1,7 @@
 # Looks for the lookup in a function's x86-64 code as objdump writes it, and prints what is wrong with it; nothing where all is well.
 #
-# The lookup is the stretch from the first of sixteen 16-byte stores that lay the table on the stack to the load of a byte by a number. No jump may lead out of this stretch or
-# into it; and what its block takes for that number comes as bytes, yes or no, each given its weight in the block: a wide register that comes in from before
+# The lookup is the stretch from where the table's address is taken, or from the first of sixteen 16-byte stores that lay the table on the stack, to the load of a byte by a
+# number. No jump may lead out of this stretch or into it; and what its block takes for that number comes as bytes, yes or no, each given its weight in the block: a wide register that comes in from before
 # could hold a part of the sum that was chosen by a jump.
 
 # the 64-bit register that a name is a part of
@@ -32,8 +32,21 @@ END {
             if ((j in lays) && laid[j] >= laid[i] && laid[j] < laid[i] + 256 && (laid[j] - laid[i]) % 16 == 0 && !(laid[j] in seen)) { seen[laid[j]]; rows++; last = j }
         if (rows == 16) first = i
     }
-    if (!first) { print "no table of 256 bytes is laid"; exit }
-    for (load = last; load <= n; load++) if (op[load] == "movzbl" && arg[load] ~ /^[0-9]*\(%r/ && arg[load] !~ /^[0-9]*\(%rsp\)/) break
+    if (first) for (load = last; load <= n; load++) if (op[load] == "movzbl" && arg[load] ~ /^[0-9]*\(%r/ && arg[load] !~ /^[0-9]*\(%rsp\)/) break
+    for (i = 1; i <= n && !first; i++) if (op[i] == "leaq" && arg[i] ~ /^\(%rip\), %r/) {
+        split("", holds) # the registers that hold the table's address and a number
+        holds[substr(arg[i], index(arg[i], ", ") + 2)]
+        for (j = i + 1; j <= n && op[j] != "callq" && !first; j++) {
+            from = arg[j]; sub(/, *%[a-z0-9]+$/, "", from)
+            to = arg[j]; sub(/.*, */, "", to)
+            of = 0
+            while (match(from, /%r[a-z0-9]+/)) { if (substr(from, RSTART, RLENGTH) in holds) of = 1; from = substr(from, RSTART + RLENGTH) }
+            if (op[j] == "movzbl" && of && arg[j] ~ /^\(/) { first = i; load = j }
+            else if ((op[j] == "leaq" || op[j] == "addq" || op[j] == "movq") && of) holds[to]
+            else if (op[j] != "addq" && arg[j] ~ /, *%r[a-z0-9]+$/) delete holds[to]
+        }
+    }
+    if (!first) { print "no table is found"; exit }
     for (i = first; i < load; i++) if ((i in jumps) || (here[i + 1] in entered)) print "a jump between the table and its entry: " line[i]
     for (start = first; start > 1 && !((start - 1) in jumps) && !(here[start] in entered); start--);
     for (i = start; i <= load && i <= n; i++) {
@@ -42,7 +55,7 @@ END {
             if (op[i] == "leaq" || i == load) sub(/, *%[a-z0-9]+$/, "", from)
             while (match(from, /%r[a-z0-9]+/)) {
                 r = substr(from, RSTART, RLENGTH); from = substr(from, RSTART + RLENGTH)
-                if (r != "%rsp" && !(whole(r) in made)) print "a part of the entry's number comes from before: " line[i]
+                if (r != "%rsp" && r != "%rip" && !(whole(r) in made)) print "a part of the entry's number comes from before: " line[i]
             }
         }
         if (match(arg[i], /%[a-z0-9]+$/)) made[whole(substr(arg[i], RSTART))]

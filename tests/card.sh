@@ -6,8 +6,7 @@ set -euo pipefail
 cd "$(dirname "$0")/.."
 out=target/c
 mkdir -p "$out"
-rt staticlib card >"$out/staticlib.log" 2>&1 || { cat "$out/staticlib.log"; exit 1; }
-library=target/staticlib/libcard.a
+library=$(tools/made card)
 warnings=(-std=c11 -O2 -Wall -Wextra -Werror -I"$out")
 
 # the tables of docs/SUPERVISOR.md for C: NUMBER(offset, bytes, least, greatest) for each number, ARRAY(offset, bytes) for each array

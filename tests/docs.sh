@@ -9,7 +9,7 @@ says() { echo "docs: $*"; wrong=1; }
 # tokens TEXT: what stands between backticks, a line each
 tokens() { grep -o '`[^`]*`' <<<"$1" | tr -d '`' || true; }
 
-while IFS=: read -r crate _; do
+while IFS=": " read -r crate _; do
     grep -q "^| .*\`$crate\`.* |" docs/CRATES.md || says "CRATES.md does not name the crate $crate"
 done <crates.txt
 
@@ -20,7 +20,7 @@ while IFS= read -r place; do
     for name in $(tokens "$place"); do
         grep -Eq "(pub $name :|pub record $name\b|pub data $name\b|  pub $name :)" "$path" || says "CLAUSES.md: $path does not have $name"
     done
-done < <(grep '^|' docs/CLAUSES.md | grep -oE '[a-z]+/[A-Z][A-Za-z0-9]+( `[A-Za-z0-9]+`(, `[A-Za-z0-9]+`)*)?')
+done < <(grep '^|' docs/CLAUSES.md | grep -oE '[a-z]+/[A-Z][A-Za-z0-9]+( `[A-Za-z0-9_]+`(, `[A-Za-z0-9_]+`)*)?')
 
 # the header's numbers, against the tables of the statements: the bits of a report and of a level's, a record's words and a level's in it
 while read -r name from width; do
@@ -37,7 +37,7 @@ while read -r name from width; do
 done < <(sed -nE 's/^ *(∷ )?bits "([A-Za-z_]+)" ([0-9]+) ([0-9]+) .*/\2 \3 \4/p' crates/word/specs/Table.antt)
 while read -r name at; do
     grep -Eq "^    $name = $at\b" include/otn.h || says "include/otn.h: $name is not word $at"
-done < <(sed -nE 's/^ *(∷ )?(word|levelWord) "([A-Za-z_]+)" ([0-9]+) .*/\3 \4/p' crates/calls/specs/Words.antt)
+done < <(sed -nE 's/^ *(∷ )?(word|level_word) "([A-Za-z_]+)" ([0-9]+) .*/\3 \4/p' crates/calls/specs/Words.antt)
 for name in $(grep -oE '^#define [A-Z_]+\(r\) otn_report_bit' include/otn.h | sed -E 's/#define ([A-Z_]+).*/\1/'); do
     grep -q "bits \"$name\" " crates/word/specs/Table.antt || says "include/otn.h: no table has $name"
 done
@@ -48,7 +48,7 @@ tabled() {
     done
 }
 tabled otn_figure word
-tabled otn_level_figure levelWord
+tabled otn_level_figure level_word
 
 # the rows of functions: | `crate::name` .. | what | edits | refutations |; those of theorems end in edits as crate/label
 named=$(mktemp)

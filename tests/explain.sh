@@ -1,8 +1,8 @@
 #!/usr/bin/env bash
 # Runs the program explain on traces and holds what it writes to documents 01 and 02 and docs/BENCH.md. Status 0 where all is as it should be.
 . "$(dirname "$0")/common.sh"
-[ -x target/bin/ledger ] || rt check ledger || exit 1
-[ -x target/bin/explain ] || rt check explain || exit 1
+tools/made ledger > "$work/made" || exit 1
+tools/made explain > "$work/made" || exit 1
 program=bin/explain
 
 all() { printf "$1%.0s" {1..64}; } # a trace of 64 times this character

@@ -1,7 +1,7 @@
 #!/usr/bin/env bash
 # Runs the program ledger on traces and holds what it writes to documents 01 and 02. Status 0 where all is as it should be.
 . "$(dirname "$0")/common.sh"
-[ -x target/bin/ledger ] || rt check ledger || exit 1
+tools/made ledger > "$work/made" || exit 1
 program=bin/ledger
 
 # ends TEXT WORDS..: its last two lines

@@ -1,8 +1,8 @@
 #!/usr/bin/env bash
 # Runs the program quarters on traces and holds what it writes to document 02, K6 and K7. Status 0 where all is as it should be.
 . "$(dirname "$0")/common.sh"
-[ -x target/bin/quarters ] || rt check quarters || exit 1
-[ -x target/bin/ledger ] || rt check ledger || exit 1
+tools/made quarters > "$work/made" || exit 1
+tools/made ledger > "$work/made" || exit 1
 program=bin/quarters
 
 # sums LETTER NUMBER NUMBERS..: a line of the first of its 23 numbers; the others are 0

@@ -2,10 +2,7 @@
 # A user's first hour: the commands of bin/ as one meets them; docs/LISTING.md against the header, the programs and a trace's bytes; and each block of
 # commands in the texts for users, run in order and as it stands in a fresh clone. Status 0 where all is as it should be.
 . "$(dirname "$0")/common.sh"
-[ -x target/bin/ledger ] || rt check ledger || exit 1
-[ -x target/bin/explain ] || rt check explain || exit 1
-[ -x target/bin/quarters ] || rt check quarters || exit 1
-[ -s target/staticlib/libcard.a ] || rt staticlib card || exit 1
+for it in ledger explain quarters card; do tools/made "$it" > "$work/made" || exit 1; done
 here=$PWD
 
 # ran COMMAND..: leaves its status, what it wrote, and what it said on standard error
@@ -113,13 +110,15 @@ done
 
 # without rt and cargo, nothing else being amiss: a path with the usual tools alone, and a tree in which nothing is built
 mkdir "$work/path" "$work/tree"
-for tool in bash cat chmod dirname find mkdir mktemp readlink rm tail tee timeout touch uname; do
+for tool in bash cat chmod cp dirname find mkdir mktemp mv readlink rm tail tee timeout touch; do
     ln -s "$(command -v "$tool")" "$work/path/$tool"
 done
 refuses 'rt, .*not on the path' env PATH="$work/path" bin/ledger examples/worked.trace
 refuses 'rt, .*not on the path' env PATH="$work/path" bin/explain examples/worked.trace
 refuses 'rt, .*not on the path' env PATH="$work/path" bin/quarters examples/worked.trace
 cp -R bin tools second "$work/tree"
+mkdir -p "$work/tree/crates/ledger/src"
+touch "$work/tree/crates.txt" "$work/tree/crates/ledger/src/main.rt"
 rm -rf "$work/tree"/*/target
 refuses 'cargo, .*not on the path' env PATH="$work/path" "$work/tree/bin/scenario"
 refuses 'cargo, .*not on the path' env PATH="$work/path" "$work/tree/bin/timeline"
@@ -129,19 +128,16 @@ cat > "$work/path/rt" << 'RT'
 #!/usr/bin/env bash
 here=$(dirname "$0")
 case $1 in
-doc) echo "$here/kit/docs/START" ;;
-check) echo "rt: $*" && [ ! -e "$here/unproved" ] && mkdir -p target/bin && touch "target/bin/$2" && chmod +x "target/bin/$2" ;;
+run) echo "rt: $*" && [ ! -e "$here/unproved" ] && mkdir -p out && cp "$here/program" out/ledger && touch out/ledger.stamp ;;
 esac
 RT
-kit=$work/path/kit/on/$(uname -m)/toolchain/lib
-mkdir -p "$kit"
-printf '#!/usr/bin/env bash\ncat "$(dirname "$0")/text"\n' > "$kit/ld-linux-x86-64.so.2"
-chmod +x "$work/path/rt" "$kit/ld-linux-x86-64.so.2"
+printf '#!/usr/bin/env bash\ncat "$work/text"\n' > "$work/path/program"
+chmod +x "$work/path/rt" "$work/path/program"
 built() { env PATH="$work/path" "$work/tree/bin/ledger" /dev/null; }
 export -f built
 export work
 says() { # STATUS TEXT
-    printf "$2" > "$kit/text"
+    printf "$2" > "$work/text"
     name="a listing that is '$2'"
     ran bash -c built
     said "$1" "$status"
@@ -152,7 +148,7 @@ name='a program that is not proved'
 ran bash -c built
 said 2 "$status"
 said '' "$(cat "$work/out")"
-said yes "$(grep -q 'could not be built: rt: check ledger' "$work/err" && echo yes)"
+said yes "$(grep -q 'could not be built: rt: run' "$work/err" && echo yes)"
 rm "$work/path/unproved"
 says 0 'S 1 0\nE 1 0\n'
 said 'ledger: building target/bin/ledger; this proves it, which takes some minutes' "$(cat "$work/err")"
@@ -259,16 +255,17 @@ done
 name='README.md is a screen or two'
 said yes "$([ "$(wc -l < README.md)" -le 60 ] && echo yes)"
 
-# A fresh clone: the files that git has, as they stand here, and none that was made. It has what the proving left in target/, so that nothing is proved
-# again but the program `ledger`: that is taken away, and its first use has to build it.
+# A fresh clone: the files that git has, as they stand here, and none that was made. It has the programs and the archive that
+# were built but `ledger`, whose first use has to build it: rt takes what it rests on from this checkout.
 clone=$work/clone
 mkdir -p "$clone" "$work/blocks"
 { git -c safe.directory='*' ls-files -z || find . -name target -prune -o -type f -print0; } 2> /dev/null | tar --null -T - -cf - | tar -xf - -C "$clone" || exit 1
 git init -q "$clone" && git -C "$clone" add -A || exit 1
-mkdir "$clone/target"
-cp -R target/{bin,stamp,staticlib} "$clone/target" || exit 1
-ln -s "$here/target/rlib" "$clone/target/rlib" # large, and only read where nothing has changed since it was proved
-rm "$clone/target/bin/ledger"
+for it in explain quarters card_c; do
+    mkdir "$clone/crates/$it/out"
+    cp -p "crates/$it/out"/{explain,quarters,libcard_c.a} "$clone/crates/$it/out" 2> /dev/null
+    [ -n "$(ls "$clone/crates/$it/out")" ] || exit 1
+done
 
 # A block is the lines that begin with four blanks. It is commands where its first word is one; it is output where it begins as a line of a listing, and
 # then the commands before it in the same text have to have printed it; it is a scenario where it begins with a comment. Other blocks are forms and
@@ -278,7 +275,7 @@ awk -v to="$work/blocks" '
     !/^    / { open = 0; next }
     !open { open = 1; close(file); file = sprintf("%s/%d-%03d", to, text, ++n); print FILENAME ":" FNR > (file ".at") }
     { print substr($0, 5) > file }' README.md docs/BENCH.md docs/LISTING.md examples/README.md
-commands='(bin|second|speed|tests)/|(bash|cargo|cc|printf|rt) |\(cd |[a-z]+=\$\('
+commands='(bin|second|speed|tests|tools)/|(bash|cargo|cc|printf|rt) |\(cd |[a-z]+=\$\('
 known=0
 before=
 for block in "$work"/blocks/*[0-9]; do
@@ -288,7 +285,7 @@ for block in "$work"/blocks/*[0-9]; do
     if head -n 1 "$block" | grep -Eq "^($commands)"; then
         # Left out: the gate, which runs this test; the archive, which takes a minute and which tests/card.sh has made. Where the processor is x86-64 there
         # is no emulator to run what is linked for it, and where it is another, cc does not link the archive.
-        sed -i -E 's,^bash \.ci/run.*,test -f .ci/run,; s,^rt staticlib card.*,test -s target/staticlib/libcard.a,' "$block"
+        sed -i -E 's,^bash \.ci/run.*,test -f .ci/run,; s,^tools/made card.*,tools/made card >/dev/null,' "$block"
         case $(uname -m) in
         x86_64) sed -i 's,^$kit/on/$(uname -m)/toolchain/bin/qemu-x86_64 ,,' "$block" ;;
         *) sed -i '/^cc .*libcard\.a/d' "$block" ;;

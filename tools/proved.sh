@@ -1,5 +1,5 @@
-# Sourced by bin/ledger, bin/explain and bin/quarters, which set name and usage. Runs the program that `rt check` proves and builds, as rt does: with the kit's C
-# library, and under its emulator where the processor is not x86-64. Its output goes out as it comes; the status is told by its last lines.
+# Sourced by bin/ledger, bin/explain and bin/quarters, which set name and usage. Runs the program that `made` has proved and built. Its output goes out as it
+# comes; the status is told by its last lines.
 set -u
 root=$(cd "$(dirname "${BASH_SOURCE[0]}")/.." && pwd -P)
 refuse() {
@@ -27,21 +27,7 @@ fi
 { : 3>&1; } 2>/dev/null || refuse "standard output is closed"
 
 command -v rt >/dev/null || refuse "rt, the command of the Rattle kit, is not on the path"
-program=$root/target/bin/$name
-if [ ! -x "$program" ]; then
-    echo "$name: building target/bin/$name; this proves it, which takes some minutes" >&2
-    mkdir -p "$root/target"
-    exec 3>"$root/target/building"
-    ! command -v flock >/dev/null || flock 3 # two of them in a pipe build one after the other
-    if [ ! -x "$program" ]; then
-        rm -f "$root/target/stamp/$name" # rt goes by it, and not by the program
-        said=$(cd "$root" && rt check "$name" 2>&1 3>&- </dev/null) || refuse "it could not be built: $(tail -n 20 <<<"$said")"
-    fi
-    exec 3>&-
-fi
-kit=$(dirname "$(dirname "$(rt doc)")")/on/$(uname -m)/toolchain
-run=("$kit/lib/ld-linux-x86-64.so.2" --library-path "$kit/lib" "$program")
-[ ! -x "$kit/bin/qemu-x86_64" ] || run=("$kit/bin/qemu-x86_64" "${run[@]}")
+program=$("$root/tools/made" "$name") || exit 2
 [ ! -t 0 ] || echo "$name: a trace is awaited on standard input; $name --help tells how it is used" >&2
 
 # The last two lines are kept in a file that has no name any more. In the background, so that a signal to this script ends the program.
@@ -50,7 +36,7 @@ exec 3<&0 4>&1 5<>"$kept"
 rm -f "$kept"
 trap 'kill $(jobs -p) 2>/dev/null; exit 130' INT
 trap 'kill $(jobs -p) 2>/dev/null; exit 143' HUP TERM
-"${run[@]}" <&3 | { tee --output-error=exit /dev/fd/6 6>&1 >&4 2>/dev/null || printf '\nunwritten\n'; } | tail -n 2 >&5 &
+"$program" <&3 | { tee --output-error=exit /dev/fd/6 6>&1 >&4 2>/dev/null || printf '\nunwritten\n'; } | tail -n 2 >&5 &
 wait
 status=1 refused=0 last=
 while read -r line; do
