@@ -23,7 +23,8 @@ fn put(s: Summary, out: &mut [u8])
     codec::pour(out, &bytes);
 }
 
-// The summary of a reported second, from the bytes of its record.
+// The summary of a reported second, from the bytes of its record. A function of its own in the archive, for the stack that C sees.
+#[inline(never)]
 pub fn summarize(second: &[u8], out: &mut [u8]) -> u64
     ensures { SummaryCall second.now out.old result out.new }
 {
