@@ -7,8 +7,8 @@
 #   CARD_INCLUDE  where its otn.h stands; by default include/ beside second/
 #   CARD_LINK     what else the linker needs for it
 #
-# `rt` compiles for x86-64. On another processor the kit of `rt` has an emulator, a linker and a C library for x86-64; they are used
-# here for what is foreign, with clang to compile the C that is linked to the library.
+# `rt` compiles for x86-64, and its kit runs there alone. What is here for another processor is from a kit that had an emulator, and
+# is never taken now.
 set -euo pipefail
 second=$(cd "$(dirname "${BASH_SOURCE[0]}")" && pwd)
 speed=$(cd "$second/../speed" && pwd) # the supervisor in plain C stands there

@@ -1,7 +1,7 @@
 #!/usr/bin/env bash
 # The C calls, tried from C: builds libcard.a, tests/card.c and examples/firmware.c with -Wall -Wextra -Werror, and runs both; under
-# valgrind too where it can. libcard.a is for x86-64: on another processor the compiler crosses to it, with the libraries and the
-# emulator of the Rattle kit, and valgrind, which has no x86-64 there, is left out. Exit status 0: all passed.
+# valgrind too where it can. libcard.a is for x86-64, and the Rattle kit runs there alone; the branches for another processor are from
+# a kit that had an emulator, and are never taken now. Exit status 0: all passed.
 set -euo pipefail
 cd "$(dirname "$0")/.."
 out=target/c

@@ -1,5 +1,5 @@
 #!/usr/bin/env bash
-# The table of docs/GATE.md from what the gate printed: bash tests/times.sh LOG. For each crate the seconds that its proof took, its must-fail edits and
+# The table of docs/GATE.md from what the gate printed with the older kit, whose `rt ci` told seconds (today's tells none): bash tests/times.sh LOG. For each crate the seconds that its proof took, its must-fail edits and
 # the seconds that they took together, as `rt ci` tells them: wall seconds, with as many crates at a time as there are processors.
 set -euo pipefail
 awk '
