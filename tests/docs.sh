@@ -62,7 +62,7 @@ while IFS='|' read -r _ function _ edits refuted _; do
         echo "$crate/proofs/$law" >>"$named"
     done
 done < <(grep -E '^\| `[a-z]+::' docs/PROMISES.md)
-grep -oE '`[a-z]+/[a-z0-9_]+`' docs/PROMISES.md | tr -d '`' >>"$named" || true
+grep -oE '`[a-z_]+/[a-z0-9_]+`' docs/PROMISES.md | tr -d '`' >>"$named" || true
 while IFS= read -r edit; do
     case $edit in
     */proofs/*) ;;
