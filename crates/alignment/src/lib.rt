@@ -2,12 +2,12 @@
 #![tactic(auto)]
 
 ghost use Rattle.std.specs.Prelude.{◌≡◌};
-ghost use Rattle.alignment.specs.Alignment.{frames_of, framing_of, lof_of, next_of, locked_at, unlocked_at, multi_of, lom_of, align_of};
+ghost use Rattle.alignment.specs.Alignment.{frames_of, framing_of, lof_of, locked_at, unlocked_at, multi_of, lom_of, align_of};
 
 use filter::up;
 
-// IF or OOF. `seen`: the last frame, met in OOF, had columns 2 to 5; `misses`: frames in a row in IF without columns 3 to 5.
-#[derive(Clone, Copy)]
+// IF or OOF, a flag beside its numbers as in `Multi`. `seen`: the last frame, met in OOF, had columns 2 to 5; `misses`: frames in a row in IF without columns 3 to 5.
+#[derive(Clone, Copy, Default)]
 pub struct Framing {
     pub inframe: bool,
     pub seen: bool,
@@ -15,14 +15,15 @@ pub struct Framing {
 }
 
 // dLOF: frames in OOF in total, and frames in a row in IF, each N at most.
-#[derive(Clone, Copy)]
+#[derive(Clone, Copy, Default)]
 pub struct Lof {
     pub total: u32,
     pub good: u32,
 }
 
 // IM or OOM. `number`: the local number in IM; `misses`: mismatches in a row; `previous`: the previous MFAS where `known`.
-#[derive(Clone, Copy)]
+// The flags stand beside their numbers and are no Option: by theorem `round_trip` each state that was read from bytes has the same bytes again.
+#[derive(Clone, Copy, Default)]
 pub struct Multi {
     pub inmulti: bool,
     pub number: u8,
@@ -32,7 +33,7 @@ pub struct Multi {
 }
 
 // `lom`: frames in a row in OOM, N at most.
-#[derive(Clone, Copy)]
+#[derive(Clone, Copy, Default)]
 pub struct Alignment {
     pub framing: Framing,
     pub lof: Lof,
@@ -40,18 +41,16 @@ pub struct Alignment {
     pub lom: u32,
 }
 
-// N of k: 3 ms in frames.
+// N of k: 3 ms in frames. It answers every k, so that k is a number here.
 #[tactic(auto, unfolding(crate::specs::Alignment::frames_of))]
 pub fn frames_of(k: u8) -> u32
     ensures { result ≡ frames_of k }
 {
-    if k == 1 {
-        return 62;
+    match k {
+        1 => 62,
+        2 => 247,
+        _ => 989,
     }
-    if k == 2 {
-        return 247;
-    }
-    989
 }
 
 #[tactic(auto, unfolding(crate::specs::Alignment::framing_of))]
@@ -68,29 +67,26 @@ fn framing_step(s: Framing, four: bool, three: bool) -> Framing
         }
         let misses = up(s.misses, 5);
         if misses == 5 {
-            return Framing {
-                inframe: false,
+            Framing::default()
+        } else {
+            Framing {
+                inframe: true,
                 seen: false,
-                misses: 0,
-            };
+                misses,
+            }
         }
-        return Framing {
-            inframe: true,
-            seen: false,
-            misses: misses,
-        };
-    }
-    if four & s.seen {
-        return Framing {
+    } else if four & s.seen {
+        Framing {
             inframe: true,
             seen: false,
             misses: 0,
-        };
-    }
-    Framing {
-        inframe: false,
-        seen: four,
-        misses: 0,
+        }
+    } else {
+        Framing {
+            inframe: false,
+            seen: four,
+            misses: 0,
+        }
     }
 }
 
@@ -100,33 +96,16 @@ fn lof_step(s: Lof, n: u32, inframe: bool) -> Lof
 {
     if inframe {
         let good = up(s.good, n);
-        if good == n {
-            return Lof {
-                total: 0,
-                good: good,
-            };
+        Lof {
+            total: if good == n { 0 } else { s.total },
+            good,
         }
-        return Lof {
-            total: s.total,
-            good: good,
-        };
+    } else {
+        Lof {
+            total: up(s.total, n),
+            good: 0,
+        }
     }
-    let total = up(s.total, n);
-    Lof {
-        total: total,
-        good: 0,
-    }
-}
-
-// The number after x, modulo 256.
-#[tactic(auto, unfolding(crate::specs::Alignment::next_of))]
-fn next(x: u8) -> u8
-    ensures { result ≡ next_of x }
-{
-    if x < 255 {
-        return x + 1;
-    }
-    0
 }
 
 fn locked(number: u8, misses: u32) -> Multi
@@ -134,10 +113,9 @@ fn locked(number: u8, misses: u32) -> Multi
 {
     Multi {
         inmulti: true,
-        number: number,
-        misses: misses,
-        known: false,
-        previous: 0,
+        number,
+        misses,
+        ..Multi::default()
     }
 }
 
@@ -145,50 +123,44 @@ fn unlocked(known: bool, previous: u8) -> Multi
     ensures { result ≡ unlocked_at known previous }
 {
     Multi {
-        inmulti: false,
-        number: 0,
-        misses: 0,
-        known: known,
-        previous: previous,
+        known,
+        previous,
+        ..Multi::default()
     }
 }
 
-#[tactic(auto, unfolding(crate::specs::Alignment::multi_of))]
+#[tactic(auto, unfolding(crate::specs::Alignment::multi_of, crate::specs::Alignment::next_of))]
 fn multi_step(s: Multi, inframe: bool, mfas: u8) -> Multi
     ensures { result ≡ multi_of s inframe mfas }
 {
     if s.inmulti {
-        let number = next(s.number);
-        if inframe {
-            if mfas == number {
-                return locked(number, 0);
-            }
-            let misses = up(s.misses, 5);
-            if misses == 5 {
-                return unlocked(true, mfas);
-            }
-            return locked(number, misses);
+        let number = s.number.wrapping_add(1);
+        if !inframe {
+            return locked(number, s.misses);
         }
-        return locked(number, s.misses);
-    }
-    if inframe {
-        let follows = next(s.previous);
-        if s.known & (mfas == follows) {
-            return locked(mfas, 0);
+        if mfas == number {
+            return locked(number, 0);
         }
-        return unlocked(true, mfas);
+        let misses = up(s.misses, 5);
+        if misses == 5 {
+            unlocked(true, mfas)
+        } else {
+            locked(number, misses)
+        }
+    } else if !inframe {
+        unlocked(false, 0)
+    } else if s.known & (mfas == s.previous.wrapping_add(1)) {
+        locked(mfas, 0)
+    } else {
+        unlocked(true, mfas)
     }
-    unlocked(false, 0)
 }
 
 #[tactic(auto, unfolding(crate::specs::Alignment::lom_of))]
 fn lom_step(run: u32, n: u32, inmulti: bool) -> u32
     ensures { result ≡ lom_of run n inmulti }
 {
-    if inmulti {
-        return 0;
-    }
-    up(run, n)
+    if inmulti { 0 } else { up(run, n) }
 }
 
 // Alignment after one more frame.
@@ -196,17 +168,12 @@ fn lom_step(run: u32, n: u32, inmulti: bool) -> u32
 pub fn align_step(s: Alignment, n: u32, four: bool, three: bool, mfas: u8) -> Alignment
     ensures { result ≡ align_of s n four three mfas }
 {
-    let f = s.framing;
-    let l = s.lof;
-    let m = s.multi;
-    let framing = framing_step(f, four, three);
-    let lof = lof_step(l, n, framing.inframe);
-    let multi = multi_step(m, framing.inframe, mfas);
-    let lom = lom_step(s.lom, n, multi.inmulti);
+    let framing = framing_step(s.framing, four, three);
+    let multi = multi_step(s.multi, framing.inframe, mfas);
     Alignment {
-        framing: framing,
-        lof: lof,
-        multi: multi,
-        lom: lom,
+        framing,
+        lof: lof_step(s.lof, n, framing.inframe),
+        multi,
+        lom: lom_step(s.lom, n, multi.inmulti),
     }
 }

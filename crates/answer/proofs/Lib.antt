@@ -7,3 +7,5 @@ pub mod Every
 pub mod Refuted
 pub mod Unique
 pub mod Overs
+pub mod Numbers
+pub mod Same

@@ -5,3 +5,4 @@ pub mod Bounded
 pub mod Checks
 pub mod Each
 pub mod Over
+pub mod Refusal

@@ -1,21 +1,21 @@
 -- Lists one behind the other, the records of a bay, and a turn of a loop that writes one list behind those before it. Assumes nothing.
 use mathlib.Core.Path.{◌≡◌, refl, sym, ap, ◌∙◌}
-use mathlib.Core.Bool.{◌&&◌}
+use mathlib.Core.Bool.{Bool, ◌&&◌}
+use mathlib.Core.Logic.{◌⊎◌, inl, inr}
 use mathlib.Core.List.{List, [], ◌∷◌, ◌++◌, append_assoc, append-nil}
-use Prim.Native.Nat.{ℕ, zero, suc, ◌+◌, ◌-◌, ◌*◌, ◌≤◌, ◌<◌}
+use Prim.Native.Nat.{ℕ, zero, suc, ◌+◌, ◌-◌, ◌*◌, ◌/◌, ◌≤◌, ◌<◌}
 use native.Mathlib.Nat.{mul-zero, mul-suc}
 use native.Mathlib.Numerals.{add-one}
 use native.Mathlib.Omega.{arith}
 use lib.ListN.{length, get_or, take, drop, set, length-append, length-drop, take-append-drop, drop_of_length-le}
 use lib.Seq.{take-suc, take_all, take_at, drop_at, take-add, drop-drop, length-take-le, get_or-take}
+use Rattle.std.specs.Simd.{first_chunks}
 use Rattle.answer.specs.Each.{each_from}
 use Rattle.answer.specs.Over.{over}
 use Rattle.answer.proofs.Each.{each_length, each_at}
 use Rattle.answer.proofs.Overs.{over_nil, over_over, over_length}
 use Rattle.codec.proofs.Overs.{over_all}
 use Rattle.words.proofs.Ranges.{and_true}
-use Rattle.ranges.proofs.Below.{and_two}
-use Rattle.rack.specs.Rack.{level_sound}
 use Rattle.bay.specs.Bay.{records_from, records_of, chained, all_sound, each_record}
 
 -- the records, and record i
@@ -29,6 +29,14 @@ record_from (suc k) d zero h = refl
 record_from (suc k) d (suc i) h =
     let e : 288 * suc i ≡ 288 + 288 * i = omega arith in
     record_from k (drop 288 d) i (omega arith) ∙ ap (take 288) (drop-drop (288 * i) 288 d ∙ ap (λ (n : ℕ). drop n d) (sym e))
+
+-- the chunks of 288 behind the strip
+pub records_are : (b : List ℕ) → length b ≡ 1760
+    → first_chunks 288 (length (take 1728 (drop 32 b)) / 288) (take 1728 (drop 32 b)) ≡ records_of b
+records_are b n =
+    let m : length (drop 32 b) ≡ 1728 = length-drop 32 b ∙ omega arith in
+    let e : take 1728 (drop 32 b) ≡ drop 32 b = take_all 1728 (drop 32 b) (omega arith) in
+    ap (λ (d : List ℕ). first_chunks 288 (length d / 288) d) e ∙ ap (λ (k : ℕ). first_chunks 288 (k / 288) (drop 32 b)) m
 
 -- where record i begins, and how much lies between its begin and its end, as the code has them
 abbrev pub begins : ℕ → ℕ
@@ -80,14 +88,15 @@ record_set b y i h n =
     rw (span i, take-add 32 (288 * i) b, ← drop-drop (288 * i) 32 b) (append_assoc (take 32 b) x z) in
     g ∙ ap (λ (r : List ℕ). take 32 b ++ r) (chained_set 6 (drop 32 b) y i h m)
 
--- one record more of the test
-sound_append : (rs : List (List ℕ)) (r : List ℕ) → all_sound (rs ++ (r ∷ [])) ≡ (all_sound rs && level_sound r)
+-- the test of the records at its end: as many flags as records, and one of both is used up
+pub sound_end : (t g : Bool) (rs : List (List ℕ)) (bs : List ℕ) → length rs ≡ length bs → (rs ≡ []) ⊎ (bs ≡ []) → t ≡ (g && all_sound rs) → g ≡ t
 unfolding all_sound
-sound_append [] r = and_true (level_sound r)
-sound_append (x ∷ rs) r = rw (sound_append rs r) (and_two (level_sound x) (all_sound rs) (level_sound r))
-
-pub sound_turn : (rs : List (List ℕ)) (i : ℕ) → i < length rs → all_sound (take (i + 1) rs) ≡ (all_sound (take i rs) && level_sound (get_or rs i []))
-sound_turn rs i h = rw (add-one, take-suc rs i []) (sound_append (take i rs) (get_or rs i []))
+sound_end t g [] bs n e h = sym (h ∙ and_true g)
+sound_end t g (x ∷ rs) bs n (inl e) h = let k : suc (length rs) ≡ 0 = ap (λ (l : List (List ℕ)). length l) e in absurd (omega arith)
+sound_end t g (x ∷ rs) bs n (inr e) h =
+    let m : suc (length rs) ≡ length bs = n in
+    let k : length bs ≡ 0 = ap (λ (l : List ℕ). length l) e in
+    absurd (omega arith)
 
 chained_append : (rs : List (List ℕ)) (r : List ℕ) → chained (rs ++ (r ∷ [])) ≡ chained rs ++ r
 unfolding chained

@@ -1,5 +1,6 @@
 -- What it says that a level is provisioned, the record of a level by its number, and what is done to it. Assumes nothing.
-use mathlib.Core.Path.{◌≡◌, refl, ◌∙◌}
+use Rattle.std.specs.Prelude.{Result, Ok, Err}
+use mathlib.Core.Path.{◌≡◌, refl, ap, ◌∙◌}
 use mathlib.Core.Bool.{Bool, true, false, cond, false≢true}
 use mathlib.Core.List.{List, ◌++◌}
 use Prim.Native.Nat.{ℕ, ◌+◌, ◌-◌, ◌≤◌}
@@ -7,12 +8,20 @@ use native.Mathlib.Omega.{arith}
 use lib.Dec.{eqb, leb}
 use lib.ListN.{length, get_or, take, drop, set}
 use borrow.Author.Tests.{eqb-true, leb-true}
+use Rattle.answer.specs.Refusal.{number_of, said}
+use Rattle.answer.specs.declared.Refusal.{Refusal}
+use Rattle.answer.proofs.Numbers.{number_above}
 use Rattle.overhead.specs.Overhead.{level_field}
 use Rattle.alignment.specs.declared.Multi.{Multi}
 use Rattle.settings.specs.declared.Options.{Options}
 use Rattle.rack.specs.Rack.{level_record}
 use Rattle.bay.specs.Bay.{record_at, given_in, fresh_record, with_record, where_given, given_rule, frame_record}
 use Rattle.bay.proofs.Chains.{begins, spans, record_of, record_set}
+
+-- a test that passed
+pub passed : (x : Bool) (e : Refusal) → ◌≡◌ {A = Result (Unit {0}) Refusal} (cond x (Ok tt) (Err e)) (Ok tt) → x ≡ true
+passed true e h = refl
+passed false e h = let n : number_of e ≡ 0 = ap said h in let p = number_above e in absurd (omega arith)
 
 -- a `cond` that is true where its other branch is false
 pub both : (t x : Bool) → cond t x false ≡ true → (t ≡ true) × (x ≡ true)

@@ -13,7 +13,7 @@ use Rattle.settings.specs.declared.Options.{Options}
 use Rattle.second.specs.Second.{discard_of}
 use Rattle.level.specs.declared.LevelStands.{LevelStands}
 use Rattle.supervisor.specs.Supervisor.{blank_options}
-use Rattle.supervisor.specs.declared.Traced.{Traced}
+use Rattle.std.specs.Prelude.{Ok}
 use Rattle.ranges.specs.Sound.{below, layer_ranged}
 use Rattle.numbers.specs.Held.{held_bytes}
 use Rattle.rack.specs.Rack.{level_sound}
@@ -76,20 +76,20 @@ given_to : {b c : List ℕ} {n m : ℕ} (p : Options) → b ≡ c → n ≡ m �
 given_to p e f = rw (e, f)
 
 -- give_at: there is no level 0, and its flag would be the frame's
-pub level_zero : (κs : Lfts 1) (a : Dens κs give_at_kinds.ps) (s : AtExit (ended_of 1 give_at_kinds.ps give_at_kinds.r) κs)
+pub level_zero : (κs : Lfts 2) (a : Dens κs give_at_kinds.ps) (s : AtExit (ended_of 2 give_at_kinds.ps give_at_kinds.r) κs)
     → a.0.now ≡ replicate 1760 0 → a.1.0 ≡ 0 → get_or s.0.now 0 0 ≡ 1 → give_at_reads.Post κs a tt s → ⊥
 unfolding gave_in
 level_zero κs a s b n end e =
-    let h : s.0.now ≡ gave_in (replicate 1760 0) 0 a.1.1.0 = e ∙ given_to a.1.1.0 b n in
+    let h : s.0.now ≡ gave_in (replicate 1760 0) 0 a.1.1.0.now = e ∙ given_to a.1.1.0.now b n in
     let z : ◌≡◌ {A = ℕ} 1 0 = sym end ∙ ap (λ (l : List ℕ). get_or l 0 0) h in
     omega arith
 
 -- give_at: of level 2 it is its own flag
-pub flag_before : (κs : Lfts 1) (a : Dens κs give_at_kinds.ps) (s : AtExit (ended_of 1 give_at_kinds.ps give_at_kinds.r) κs)
+pub flag_before : (κs : Lfts 2) (a : Dens κs give_at_kinds.ps) (s : AtExit (ended_of 2 give_at_kinds.ps give_at_kinds.r) κs)
     → a.0.now ≡ replicate 1760 0 → a.1.0 ≡ 2 → get_or s.0.now 1 0 ≡ 1 → give_at_reads.Post κs a tt s → ⊥
 unfolding gave_in
 flag_before κs a s b n end e =
-    let h : s.0.now ≡ gave_in (replicate 1760 0) 2 a.1.1.0 = e ∙ given_to a.1.1.0 b n in
+    let h : s.0.now ≡ gave_in (replicate 1760 0) 2 a.1.1.0.now = e ∙ given_to a.1.1.0.now b n in
     let z : ◌≡◌ {A = ℕ} 1 0 = sym end ∙ ap (λ (l : List ℕ). get_or l 1 0) h in
     omega arith
 
@@ -144,9 +144,9 @@ unfolding stands_in given_in
 silent_ssf κs a x s b n on e = true≢false (sym on ∙ ap (λ (d : LevelStands). d.ssf) (rw (b, n) at e))
 
 -- trace_at: a level that is not provisioned has none, and zeros are no accepted trace
-pub silent_trace : (κs : Lfts 1) (a : Dens κs trace_at_kinds.ps) (x : Traced) (s : AtExit (ended_of 1 trace_at_kinds.ps trace_at_kinds.r) κs)
-    → a.0.now ≡ replicate 1760 0 → a.1.0 ≡ 1 → x.refusal ≡ 0 → trace_at_reads.Post κs a x s → ⊥
+pub silent_trace : (κs : Lfts 1) (a : Dens κs trace_at_kinds.ps) (x : List ℕ) (s : AtExit (ended_of 1 trace_at_kinds.ps trace_at_kinds.r) κs)
+    → a.0.now ≡ replicate 1760 0 → a.1.0 ≡ 1 → trace_at_reads.Post κs a (Ok x) s → ⊥
 unfolding traced_in given_in
-silent_trace κs a x s b n none e =
-    let z : ◌≡◌ {A = ℕ} 0 13 = sym none ∙ ap (λ (t : Traced). t.refusal) (rw (b, n) at e) in
+silent_trace κs a x s b n e =
+    let z : ◌≡◌ {A = ℕ} 0 13 = rw (b, n) at e.0 in
     omega arith

@@ -3,6 +3,7 @@ use mathlib.Core.Path.{sym, ◌∙◌}
 use mathlib.Core.List.{List}
 use Prim.Native.Nat.{ℕ}
 use Rattle.answer.specs.Answer.{OneAnswer, OneEnd}
+use Rattle.answer.proofs.Same.{same_answer}
 use Rattle.bay.proofs.is_bay.Kinds as is_bay_kinds
 use Rattle.bay.proofs.is_bay.Reads as is_bay_reads
 use Rattle.bay.proofs.lay_bay.Kinds as lay_bay_kinds
@@ -26,7 +27,7 @@ is_bay_one κs a x y s t p q = p ∙ sym q
 pub lay_bay_end : OneEnd 1 lay_bay_kinds.ps lay_bay_kinds.r (List ℕ) (λ κs s. s.0.now) lay_bay_reads.Post
 lay_bay_end κs a x y s t p q = p ∙ sym q
 
-pub give_at_end : OneEnd 1 give_at_kinds.ps give_at_kinds.r (List ℕ) (λ κs s. s.0.now) give_at_reads.Post
+pub give_at_end : OneEnd 2 give_at_kinds.ps give_at_kinds.r (List ℕ) (λ κs s. s.0.now) give_at_reads.Post
 give_at_end κs a x y s t p q = p ∙ sym q
 
 pub frame_at_end : OneEnd 2 frame_at_kinds.ps frame_at_kinds.r (List ℕ) (λ κs s. s.0.now) frame_at_reads.Post
@@ -45,4 +46,7 @@ pub stands_at_one : OneAnswer 1 stands_at_kinds.ps stands_at_kinds.r stands_at_r
 stands_at_one κs a x y s t p q = p ∙ sym q
 
 pub trace_at_one : OneAnswer 1 trace_at_kinds.ps trace_at_kinds.r trace_at_reads.Post
-trace_at_one κs a x y s t p q = p ∙ sym q
+trace_at_one κs a x y s t p q =
+    let c = trace_at_reads.post-apart κs a x s p in
+    let d = trace_at_reads.post-apart κs a y t q in
+    same_answer x y _ _ c.refusal d.refusal c.ok d.ok

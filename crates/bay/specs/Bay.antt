@@ -12,7 +12,7 @@ use Rattle.second.specs.declared.Blocks.{Blocks}
 use Rattle.level.specs.Level.{level_stands, fresh_level, fresh_level_second}
 use Rattle.level.specs.declared.LevelStands.{LevelStands}
 use Rattle.supervisor.specs.Supervisor.{blank_options}
-use Rattle.supervisor.specs.declared.Traced.{Traced}
+use Rattle.supervisor.specs.Supervisor.{Traced}
 use Rattle.ranges.specs.Sound.{below}
 use Rattle.numbers.specs.Numbers.{on, front_bytes, state_bytes}
 use Rattle.numbers.specs.Held.{Held, held_in, held_bytes, options_from}

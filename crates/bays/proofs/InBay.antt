@@ -17,7 +17,7 @@ use Rattle.alignment.specs.declared.Multi.{Multi}
 use Rattle.settings.specs.declared.Options.{Options}
 use Rattle.second.specs.declared.Blocks.{Blocks}
 use Rattle.level.specs.Level.{level_of, level_stands, level_closed, level_marked, fresh_level_second}
-use Rattle.supervisor.specs.declared.Traced.{Traced}
+use Rattle.supervisor.specs.Supervisor.{Traced}
 use Rattle.numbers.specs.Numbers.{on}
 use Rattle.numbers.proofs.Strips.{both}
 use Rattle.place.specs.Place.{closed_in}

@@ -20,21 +20,16 @@ use Rattle.settings.specs.Settings.{options_of}
 use Rattle.settings.specs.declared.Request.{Request}
 use Rattle.settings.specs.declared.Settings.{Settings}
 use Rattle.settings.proofs.Ranges.{provisioned_in}
-use Rattle.supervisor.specs.Supervisor.{fresh_of, blank_options, step_refusal, step_of, mark_of}
+use Rattle.supervisor.specs.Supervisor.{Marked, Stepped, fresh_of, blank_options, step_refusal, step_of, mark_of}
 use Rattle.supervisor.specs.declared.Supervisor.{Supervisor}
-use Rattle.supervisor.specs.declared.Stepped.{Stepped}
-use Rattle.supervisor.specs.declared.Marked.{Marked}
 use Rattle.history.specs.History.{Frame}
 use Rattle.history.specs.Ranges.{Ranged, IsBytes}
 use Rattle.history.proofs.Ranges.{step_ranged, mark_ranged, fresh_ranged}
 use Rattle.racks.proofs.Kept.{level_kept}
 use Rattle.tandem.specs.Levels.{given_level, blank_level, stepped_level, marked_level, frame_rule, mark_rule, count_at, placed_at}
-use Rattle.tandem.specs.Tandem.{fresh_tandem, request_checks, request_refusal, place_checks, give_refusal, record_refusal, given_by, frame_checks, frame_refusal, framed_of, marked_of}
+use Rattle.tandem.specs.Tandem.{TandemMarked, TandemStepped, Given, fresh_tandem, request_checks, request_refusal, place_checks, give_refusal, record_refusal, given_by, frame_checks, frame_refusal, framed_of, marked_of}
 use Rattle.tandem.specs.declared.Level.{Level}
 use Rattle.tandem.specs.declared.Tandem.{Tandem}
-use Rattle.tandem.specs.declared.Given.{Given}
-use Rattle.tandem.specs.declared.TandemStepped.{TandemStepped}
-use Rattle.tandem.specs.declared.TandemMarked.{TandemMarked}
 use Rattle.tandem.proofs.Refusals.{first_after, request_same}
 use Rattle.watch.specs.Watch.{LevelCall, gives, records, frames, marks, framed_at, tandem_by, tandem_after}
 use Rattle.bays.specs.Ranges.{OneIn, AllIn, TandemIn, CallBytes, TandemKept}

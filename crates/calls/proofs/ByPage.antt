@@ -10,9 +10,8 @@ use borrow.Author.Tests.{eqb-true, le-leb}
 use Rattle.answer.proofs.Cond.{not_so}
 use Rattle.causes.specs.Causes.{tim_acts}
 use Rattle.causes.specs.declared.Report.{Report}
-use Rattle.supervisor.specs.Supervisor.{trace_refusal, traced_of, step_of}
+use Rattle.supervisor.specs.Supervisor.{Traced, trace_refusal, traced_of, step_of}
 use Rattle.supervisor.specs.declared.Supervisor.{Supervisor}
-use Rattle.supervisor.specs.declared.Traced.{Traced}
 use Rattle.history.specs.History.{Frame, frame, mark, does, reads, answer_of}
 use Rattle.page.proofs.Page.{page}
 use Rattle.tandem.specs.Levels.{level_at, low_to}

@@ -28,9 +28,8 @@ use Rattle.watch.proofs.Silent.{levels_silent, mark_refusal_lem}
 use Rattle.watch.proofs.Alone.{plain_accepts, counts_low}
 use Rattle.watch.proofs.Calls.{plain_of}
 use Rattle.bays.proofs.Kept.{tandem_kept}
-use Rattle.late.specs.Late.{fresh_late, pending_of, late_marked}
+use Rattle.late.specs.Late.{LateMarked, fresh_late, pending_of, late_marked}
 use Rattle.late.specs.declared.Late.{Late}
-use Rattle.late.specs.declared.LateMarked.{LateMarked}
 use Rattle.reports.specs.Reports.{late_by, late_after}
 use Rattle.reports.proofs.Lists.{late_append}
 use Rattle.reports.proofs.Reports.{reported}

@@ -3,7 +3,7 @@ use Rattle.std.specs.Prelude.{◌≡◌, true, cond, List, [], ◌∷◌, ◌++�
 use Rattle.words.specs.Words.{flat}
 use Rattle.codec.specs.Over.{poured}
 use Rattle.settings.specs.declared.Settings.{Settings}
-use Rattle.supervisor.specs.declared.Traced.{Traced}
+use Rattle.supervisor.specs.Supervisor.{Traced}
 use Rattle.history.specs.History.{Frame, Event, frame, mark, does, reads, Answer, stepped, marked, traced}
 use Rattle.page.specs.Page.{answer}
 use Rattle.tandem.specs.Levels.{low_to}

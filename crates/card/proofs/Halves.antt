@@ -9,7 +9,11 @@ use lib.Dec.{eqb, leb, ltb}
 use lib.ListN.{length, get_or, take, drop, length-drop, drop_of_length-le}
 use lib.Seq.{take_all, take_at, drop_at, length-take-le, get_or-drop}
 use borrow.Author.Tests.{eq-eqb, ne_eqb, le-leb, lt-ltb}
+use Rattle.std.specs.Prelude.{Result, Ok, Err}
 use Rattle.answer.specs.Checks.{first_of}
+use Rattle.answer.specs.Refusal.{number_of, said}
+use Rattle.answer.specs.declared.Refusal.{Refusal}
+use Rattle.answer.specs.declared.Refusal.TheVariants.{UnknownLevel}
 use Rattle.codec.specs.Over.{bytes_in}
 use Rattle.codec.proofs.Overs.{all_in}
 use Rattle.words.specs.Words.{flat, words_in}
@@ -44,6 +48,11 @@ use Rattle.word.specs.Level.{level_word}
 use Rattle.card.specs.declared.Reported.{Reported}
 use Rattle.card.specs.Calls.{reported_of, figures_at, told_word}
 use Rattle.card.proofs.Parts.{ranged, frame_sizes, marked_sizes}
+
+-- what a test says
+said_cond : (p : Bool) (e : Refusal) → ◌≡◌ {A = ℕ} (said {A = Unit {0}} (cond p (Ok tt) (Err e))) (cond p 0 (number_of e))
+said_cond true e = refl
+said_cond false e = refl
 
 -- The test.
 
@@ -140,22 +149,19 @@ module _ (l : List ℕ) (b : tandem_sound l ≡ true) where
   unfolding tandem_from
   flags_is = sym (get_or-drop 688 l 0 0)
 
-  pub frame_is : (overhead : List ℕ) (flags sm pm : ℕ) (counts : List ℕ) (a : Reported) (w : ℕ) (x y : List ℕ) → length overhead ≡ 64
-      → frame_refusal t overhead flags sm pm counts ≡ 0 → a ≡ reported_of (load_of (take 688 l)) overhead flags sm pm
-      → x ≡ bytes_of (frame_of (load_of (take 688 l)) overhead flags sm pm)
-      → y ≡ framed_in (take 1760 (drop 688 (first_over l x))) flags a.report.path.ssf a.multi (take 64 overhead) counts → w ≡ report_word a.report
+  pub frame_is : (overhead : List ℕ) (flags sm pm : ℕ) (counts : List ℕ) (a : Reported) (w : ℕ) (p q x y : List ℕ)
+      → frame_refusal t overhead flags sm pm counts ≡ 0 → p ≡ take 688 l → q ≡ drop 688 l → a ≡ reported_of (load_of p) overhead flags sm pm
+      → x ≡ bytes_of (frame_of (load_of p) overhead flags sm pm)
+      → y ≡ framed_in q flags a.report.path.ssf a.multi overhead counts → w ≡ report_word a.report
       → (w ≡ report_word (framed_by_table t overhead flags sm pm counts).report)
-      × (last_over (first_over l x) y ≡ tandem_bytes (framed_by_table t overhead flags sm pm counts).tandem)
-  frame_is overhead flags sm pm counts a w x y k e ea ex ey ew =
-      let s : Supervisor = load_of (take 688 l) in
-      let nx : length x ≡ 688 = ap length ex ∙ length_bytes (frame_of s overhead flags sm pm) (frame_sizes s (ranged (take 688 l) (first_sound l b)) overhead flags sm pm) in
-      let ra : a ≡ reported_of t.base overhead flags sm pm = ea ∙ ap (λ (z : Supervisor). reported_of z overhead flags sm pm) base_is in
-      let rx : x ≡ bytes_of (frame_of t.base overhead flags sm pm) = ex ∙ ap (λ (z : Supervisor). bytes_of (frame_of z overhead flags sm pm)) base_is in
-      let ry : y ≡ framed_in (bay_of t) flags a.report.path.ssf a.multi overhead counts =
-      rw (last_kept l x y long nx ∙ last_from l b, take_all 64 overhead (omega arith)) at ey in (
+      × (x ++ y ≡ tandem_bytes (framed_by_table t overhead flags sm pm counts).tandem)
+  frame_is overhead flags sm pm counts a w p q x y e ep eq ea ex ey ew =
+      let es : load_of p ≡ t.base = ap load_of ep ∙ base_is in
+      let ra : a ≡ reported_of t.base overhead flags sm pm = ea ∙ ap (λ (z : Supervisor). reported_of z overhead flags sm pm) es in
+      let rx : x ≡ bytes_of (frame_of t.base overhead flags sm pm) = ex ∙ ap (λ (z : Supervisor). bytes_of (frame_of z overhead flags sm pm)) es in
+      let ry : y ≡ framed_in (bay_of t) flags a.report.path.ssf a.multi overhead counts = rw (eq ∙ last_from l b) at ey in (
         ew ∙ ap (λ (z : Reported). report_word z.report) ra ∙ ap report_word (sym (framed_report t overhead flags sm pm counts e)),
-        both_over l x y long nx
-            ∙ both rx (rw ra at (ry ∙ inside.framed flags a.report.path.ssf a.multi overhead counts))
+        both rx (rw ra at (ry ∙ inside.framed flags a.report.path.ssf a.multi overhead counts))
             ∙ sym (framed_tandem t overhead flags sm pm counts e),
       )
 
@@ -179,7 +185,7 @@ module _ (l : List ℕ) (b : tandem_sound l ≡ true) where
       let o : p ≡ options_of r names = ep ∙ ap (options_of r) (ek ∙ all_in 32 names nn) in
       last_over_lem l [] y long ∙ both (first_from l b) (rw (bay_is, o) at ey ∙ inside.given n (options_of r names))
 
-  pub level_refusal_is : (n : ℕ) (r : Request) (names w c : List ℕ) (h : Head) (given : Bool) (six eighteen sixteen x : ℕ) → w ≡ bytes_in 32 0 (take 688 l) → h ≡ head_in w
+  level_refusal_is : (n : ℕ) (r : Request) (names w c : List ℕ) (h : Head) (given : Bool) (six eighteen sixteen x : ℕ) → w ≡ bytes_in 32 0 (take 688 l) → h ≡ head_in w
       → c ≡ words_in 12 64 (take 688 l) → given ≡ given_in (take 1760 (drop 688 l)) n → six ≡ settings_refusal h.k r r names names
       → eighteen ≡ cond (leb 1 n && leb n 6 && not given) 0 18 → sixteen ≡ cond (not (ltb 0 h.seconds || ltb 0 (get_or c 0 0))) eighteen 16
       → x ≡ cond (eqb six 0) sixteen six → x ≡ give_refusal t n r names
@@ -192,6 +198,23 @@ module _ (l : List ℕ) (b : tandem_sound l ≡ true) where
       let same : six ≡ request_refusal k r names = rw (eh, ew) at e6 ∙ request_same k r names good in
       let place : sixteen ≡ first_of (place_checks t n) = rw (e16, e18, g, eh, ew, ec) in
       ex ∙ rw (place, same) (sym (first_after 10 (request_checks k r names) (place_checks t n) refl))
+
+  -- the refusals of a level by what is read of the bytes
+  pub give_by : (n : ℕ) (r : Request) (names c : List ℕ) (h : Head) (given : Bool) → h ≡ head_in (bytes_in 32 0 (take 688 l)) → c ≡ words_in 12 64 (take 688 l)
+      → given ≡ given_in (take 1760 (drop 688 l)) n
+      → give_refusal t n r names
+      ≡ cond (eqb (settings_refusal h.k r r names names) 0)
+      (cond (not (ltb 0 h.seconds || ltb 0 (get_or c 0 0))) (cond (leb 1 n && leb n 6 && not given) 0 18) 16)
+      (settings_refusal h.k r r names names)
+  give_by n r names c h given eh ec eg = sym (level_refusal_is n r names (bytes_in 32 0 (take 688 l)) c h given _ _ _ _ refl eh ec eg refl refl refl refl)
+
+  -- and where all but the last of its tests passed
+  pub give_last : (n : ℕ) (r : Request) (names c : List ℕ) (h : Head) (given : Bool) (x : Result (Unit {0}) Refusal) → h ≡ head_in (bytes_in 32 0 (take 688 l))
+      → c ≡ words_in 12 64 (take 688 l) → given ≡ given_in (take 1760 (drop 688 l)) n → settings_refusal h.k r r names names ≡ 0
+      → not (ltb 0 h.seconds || ltb 0 (get_or c 0 0)) ≡ true → x ≡ cond (leb 1 n && leb n 6 && not given) (Ok tt) (Err UnknownLevel) → said x ≡ give_refusal t n r names
+  give_last n r names c h given x eh ec eg z s ex =
+      let e : said x ≡ cond (leb 1 n && leb n 6 && not given) 0 18 = ap said ex ∙ said_cond (leb 1 n && leb n 6 && not given) UnknownLevel in
+      e ∙ sym (give_by n r names c h given eh ec eg ∙ rw (z, s))
 
   pub level_traced_lem : (n : ℕ) → traced_in (take 1760 (drop 688 l)) n ≡ level_traced t n
   level_traced_lem n = ap (λ (z : List ℕ). traced_in z n) bay_is ∙ inside.traced n

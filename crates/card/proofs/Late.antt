@@ -3,10 +3,10 @@
 use mathlib.Core.Path.{◌≡◌, refl, sym, ap, ◌∙◌}
 use mathlib.Core.Bool.{Bool, true, false, ◌&&◌}
 use mathlib.Core.List.{List, [], ◌∷◌, ◌++◌, append-nil}
-use Prim.Native.Nat.{ℕ, ◌+◌, ◌≤◌, ◌<◌}
+use Prim.Native.Nat.{ℕ, zero, suc, ◌+◌, ◌*◌, ◌≤◌, ◌<◌}
 use native.Mathlib.Nat.{zero-add}
 use native.Mathlib.Omega.{arith}
-use lib.ListN.{length, take, drop, replicate, length-drop, drop_of_length-le}
+use lib.ListN.{length, get_or, take, drop, replicate, length-drop, drop_of_length-le}
 use lib.Seq.{length-take-le, take_all, take_at, drop_at, take-take, drop-drop}
 use borrow.Author.Tests.{eq-eqb, ne_eqb, lt-ltb}
 use Rattle.codec.specs.Over.{bytes_in, poured}
@@ -112,6 +112,33 @@ levels_are l a b c d e f n ea eb ec ed ee ef =
     let five : drop 288 (drop 1584 l) ≡ drop 1872 l = drop-drop 288 1584 l in
     let six : drop 288 (drop 1872 l) ≡ drop 2160 l = drop-drop 288 1872 l in
     rw (one, two, three, four, five, six, ea, eb, ec, ed, ee, ef)
+
+abbrev pub neither : Erred
+neither = record { iae = false; biae = false }
+
+module _ (l : List ℕ) (n : length l ≡ 2448) where
+  -- that of level i + 1
+  abbrev erred_at : ℕ → Erred
+  erred_at i = erred_in (held_in (take 288 (drop (720 + 288 * i) l)))
+
+  six_erred : (erred_at 0 ∷ erred_at 1 ∷ erred_at 2 ∷ erred_at 3 ∷ erred_at 4 ∷ erred_at 5 ∷ []) ≡ levels_erred (tandem_from l)
+  six_erred = levels_are l _ _ _ _ _ _ n refl refl refl refl refl refl
+
+  pub levels_long : length (levels_erred (tandem_from l)) ≡ 6
+  levels_long = ap length (sym six_erred)
+
+  pub erred_here : (i w : ℕ) (e d : Erred) → i < 6 → w ≡ 288 → e ≡ erred_in (held_in (take w (drop (720 + 288 * i) l)))
+      → e ≡ get_or (levels_erred (tandem_from l)) i d
+  erred_here i w e d h k ee = rw k at ee ∙ at i h ∙ ap (λ (x : List Erred). get_or x i d) six_erred
+    where
+      at : (i : ℕ) → i < 6 → erred_at i ≡ get_or (erred_at 0 ∷ erred_at 1 ∷ erred_at 2 ∷ erred_at 3 ∷ erred_at 4 ∷ erred_at 5 ∷ []) i d
+      at zero h = refl
+      at (suc zero) h = refl
+      at (suc (suc zero)) h = refl
+      at (suc (suc (suc zero))) h = refl
+      at (suc (suc (suc (suc zero)))) h = refl
+      at (suc (suc (suc (suc (suc zero))))) h = refl
+      at (suc (suc (suc (suc (suc (suc i)))))) h = absurd (omega arith)
 
 pub report_is : (l pending told r : List ℕ) (section : Erred) (levels : List Erred) (number : ℕ) → length l ≡ 2652 → number ≡ (late_from l).tandem.base.seconds
     → pending ≡ words_in 51 2448 l → section ≡ section_erred (tandem_from (take 2448 l)) → levels ≡ levels_erred (tandem_from (take 2448 l))

@@ -5,7 +5,6 @@ use mathlib.Core.Bool.{Bool, true, false, ◌||◌}
 use mathlib.Core.List.{List, [], ◌∷◌, ◌++◌, append_assoc, append-nil}
 use native.Mathlib.Omega.{arith}
 use lib.ListN.{length, get_or, take, drop}
-use lib.Seq.{take_all}
 use Rattle.codec.specs.Pieces.{Piece, piece, joined, Sized}
 use Rattle.codec.proofs.Pieces.{length_joined}
 use Rattle.words.specs.Words.{flat, words_in}
@@ -89,7 +88,7 @@ module _ (s : Supervisor) (r : Ranged s) (overhead : List ℕ) (flags sm pm : �
   pub frame_sizes : Arrays (frame_of s overhead flags sm pm)
   frame_sizes = record { section = section_sizes; path = path_sizes }
 
-module _ (l : List ℕ) (e : sound l ≡ true) (overhead : List ℕ) (flags sm pm : ℕ) (n : length overhead ≡ 64) (o : Overhead) (a : LineFrame) (ssf acts : Bool) (st : SectionStands) (pt : PathFrame)
+module _ (l : List ℕ) (e : sound l ≡ true) (overhead : List ℕ) (flags sm pm : ℕ) (o : Overhead) (a : LineFrame) (ssf acts : Bool) (st : SectionStands) (pt : PathFrame)
     (x1 x2 x3 : List ℕ) where
   abbrev l1 : List ℕ
   l1 = x1 ++ drop 64 l
@@ -100,13 +99,12 @@ module _ (l : List ℕ) (e : sound l ≡ true) (overhead : List ℕ) (flags sm p
   abbrev l3 : List ℕ
   l3 = take 400 l2 ++ (x3 ++ drop 288 (drop 400 l2))
 
-  pub layers_are : o ≡ overhead_of (take 64 overhead) → LineAt (take 64 l) o.four o.three o.mfas flags a x1 → ssf ≡ ssf_of a.line
+  pub layers_are : o ≡ overhead_of overhead → LineAt (take 64 l) o.four o.three o.mfas flags a x1 → ssf ≡ ssf_of a.line
       → SectionAt (take 288 (drop 112 l1)) ssf a.multi o.section sm st x2 → acts ≡ tim_acts st.tim st.disabled
       → PathAt (take 288 (drop 400 l2)) (ssf || acts) a.multi o.path pm pt x3
       → (◌≡◌ {A = Layered} (record { standing = record { line = a.line; section = st; path = pt.stands }; raised = pt.raised; multi = a.multi }) (layered_of (load_of l) overhead flags sm pm))
       × (l3 ≡ unfiled (load_of l) (frame_of (load_of l) overhead flags sm pm))
-  layers_are given hl es hs ea hp =
-      let eo : o ≡ overhead_of overhead = given ∙ ap overhead_of (take_all 64 overhead (omega arith)) in
+  layers_are eo hl es hs ea hp =
       let s : Supervisor = load_of l in
       let r : Ranged s = ranged l e in
       let t : Supervisor = frame_of s overhead flags sm pm in

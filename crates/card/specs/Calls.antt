@@ -18,16 +18,17 @@ use Rattle.supervisor.specs.declared.Supervisor.{Supervisor}
 use Rattle.numbers.specs.Numbers.{head_bytes, align_bytes}
 use Rattle.numbers.specs.Held.{Held, held_bytes, layer_from}
 use Rattle.image.specs.Image.{line_head, counts_of, section_held, path_held}
-use Rattle.tandem.specs.Levels.{is_level, level_at, low_to}
-use Rattle.tandem.specs.Tandem.{fresh_tandem, request_checks, place_checks, give_of, frame_checks, framed_of, level_report, level_traced}
+use Rattle.tandem.specs.Levels.{is_level, level_at}
+use Rattle.tandem.specs.Tandem.{fresh_tandem, request_checks, place_checks, LevelReport, give_of, frame_checks, framed_of, level_report, level_traced}
 use Rattle.tandem.specs.declared.Level.{Level}
-use Rattle.tandem.specs.declared.LevelReport.{LevelReport}
 use Rattle.tandem.specs.declared.Tandem.{Tandem}
 use Rattle.late.specs.Late.{fresh_late, pending_of, late_marked}
 use Rattle.late.specs.declared.Erred.{Erred}
 use Rattle.slots.specs.Image.{late_bytes, late_from, late_sound}
 use Rattle.word.specs.Report.{report_word}
 use Rattle.word.specs.Level.{level_word}
+-- a frame's refusals but 17, by the frames that the open second holds
+pub use Rattle.tandem.specs.Tandem.{refusal_by}
 use Rattle.card.specs.declared.Layered.{Layered}
 use Rattle.card.specs.declared.Reported.{Reported}
 
@@ -107,16 +108,6 @@ pub record LevelCall (sup : List ℕ) (n : ℕ) (request : Request) (names : Lis
 -- with six counts 0.
 abbrev pub call_checks : List ℕ → List ℕ → ℕ → ℕ → ℕ → List ℕ → List Check
 call_checks sup overhead flags sm pm counts = check 17 (late_sound sup) ∷ frame_checks (tandem_of sup) overhead flags sm pm counts
-
--- the refusals but 17, by the frames that the open second holds
-unfoldable pub refusal_by : ℕ → List ℕ → ℕ → ℕ → ℕ → List ℕ → ℕ
-refusal_by frames overhead flags sm pm counts =
-    first_of
-    (check 1 (eqb (length overhead) 64)
-    ∷ check 2 (leb flags 3)
-    ∷ check 3 (leb sm 8 && leb pm 8 && low_to 6 counts)
-    ∷ check 4 (ltb frames 400000)
-    ∷ [])
 
 unfoldable pub call_refusal : List ℕ → List ℕ → ℕ → ℕ → ℕ → List ℕ → ℕ
 call_refusal sup overhead flags sm pm counts = first_of (call_checks sup overhead flags sm pm counts)

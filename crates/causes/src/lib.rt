@@ -7,7 +7,7 @@ ghost use Rattle.causes.specs.Causes.{ssf_of, tim_acts, line_causes, section_act
 use signal::Signal;
 
 // The line: alignment states, the flags TSF-P and OTUk-AIS, dLOF and dLOM.
-#[derive(Clone, Copy)]
+#[derive(Clone, Copy, Default)]
 pub struct Line {
     pub inframe: bool,
     pub inmulti: bool,
@@ -18,7 +18,7 @@ pub struct Line {
 }
 
 // The section's defects, and whether TIMActDis keeps dTIM from acting.
-#[derive(Clone, Copy)]
+#[derive(Clone, Copy, Default)]
 pub struct SectionStands {
     pub tim: bool,
     pub disabled: bool,
@@ -29,7 +29,7 @@ pub struct SectionStands {
 }
 
 // The path's defects: the signal is dAIS, dOCI, dLCK or none.
-#[derive(Clone, Copy)]
+#[derive(Clone, Copy, Default)]
 pub struct PathStands {
     pub signal: Signal,
     pub tim: bool,
@@ -38,7 +38,7 @@ pub struct PathStands {
     pub deg: bool,
 }
 
-#[derive(Clone, Copy)]
+#[derive(Clone, Copy, Default)]
 pub struct Standing {
     pub line: Line,
     pub section: SectionStands,
@@ -108,6 +108,7 @@ pub struct Report {
     pub section: SectionActions,
     pub path: PathActions,
     pub causes: Causes,
+    // A number, 0 to 9: history's `Says` counts the frames by it, and C shows it.
     pub head: u8,
 }
 
@@ -141,7 +142,7 @@ fn section_actions(ssf: bool, d: SectionStands, violations: u8) -> SectionAction
 {
     let acts = tim_acts(d.tim, d.disabled);
     SectionActions {
-        ssf: ssf,
+        ssf,
         tsf: ssf | acts,
         tsd: d.deg,
         bdi: ssf | d.tim,
@@ -158,7 +159,7 @@ fn section_causes(ssf: bool, d: SectionStands) -> SectionCauses
         tim: d.tim & !ssf,
         deg: d.deg & !(ssf | acts),
         bdi: d.bdi & !(ssf | acts),
-        ssf: ssf,
+        ssf,
     }
 }
 
@@ -166,8 +167,7 @@ fn section_causes(ssf: bool, d: SectionStands) -> SectionCauses
 pub fn path_down(ssf: bool, d: PathStands) -> bool
     ensures { result ≡ path_down ssf d }
 {
-    let signal = d.signal;
-    let raised = signal::raised_by(signal);
+    let raised = signal::raised_by(d.signal);
     ssf | raised.ais | raised.oci | raised.lck
 }
 
@@ -177,7 +177,7 @@ fn path_actions(ssf: bool, d: PathStands, violations: u8) -> PathActions
     let down = path_down(ssf, d);
     let acts = tim_acts(d.tim, d.disabled);
     PathActions {
-        ssf: ssf,
+        ssf,
         tsf: down | acts,
         tsd: d.deg,
         bdi: down | d.tim,
@@ -186,6 +186,7 @@ fn path_actions(ssf: bool, d: PathStands, violations: u8) -> PathActions
 }
 
 // The path's causes by the equations, of the eight inputs that they go by.
+// They stand one by one, as C hands them in and as lookup's `TableRule` has them.
 pub fn causes_by(
     ssf: bool,
     ais: bool,
@@ -213,8 +214,7 @@ pub fn causes_by(
 fn path_causes(ssf: bool, d: PathStands) -> PathCauses
     ensures { result ≡ path_causes ssf d }
 {
-    let signal = d.signal;
-    let raised = signal::raised_by(signal);
+    let raised = signal::raised_by(d.signal);
     causes_by(
         ssf, raised.ais, raised.oci, raised.lck, d.tim, d.disabled, d.deg, d.bdi,
     )
@@ -230,18 +230,15 @@ fn first(stands: bool, head: u8, rest: u8) -> u8
     rest
 }
 
-// The head: the first that fits.
+// The head: the first that fits. Each is tried, by a function of its own and no chain of else if, so that a frame's work is the same whichever fits (speed/flat).
 #[tactic(auto, unfolding(crate::specs::Causes::head_of))]
 pub fn head_of(d: Standing) -> u8
     ensures { result ≡ head_of d }
 {
     let l = d.line;
-    let s = d.section;
-    let p = d.path;
-    let signal = p.signal;
-    let raised = signal::raised_by(signal);
-    let section = tim_acts(s.tim, s.disabled);
-    let path = tim_acts(p.tim, p.disabled);
+    let raised = signal::raised_by(d.path.signal);
+    let section = tim_acts(d.section.tim, d.section.disabled);
+    let path = tim_acts(d.path.tim, d.path.disabled);
     let nine = first(path, 9, 0);
     let eight = first(raised.lck, 8, nine);
     let seven = first(raised.oci, 7, eight);
@@ -257,35 +254,25 @@ pub fn head_of(d: Standing) -> u8
 pub fn path_ssf(d: Standing) -> bool
     ensures { result ≡ path_ssf d }
 {
-    let l = d.line;
-    let s = d.section;
-    let ssf = ssf_of(l);
-    let acts = tim_acts(s.tim, s.disabled);
-    ssf | acts
+    ssf_of(d.line) | tim_acts(d.section.tim, d.section.disabled)
 }
 
 // The report of what stands, with the frame's violation counts and the path's causes as they were found.
 pub fn report_with(causes: PathCauses, d: Standing, sm: u8, pm: u8) -> Report
     ensures { result ≡ report_with causes d sm pm }
 {
-    let l = d.line;
-    let s = d.section;
-    let p = d.path;
-    let ssf = ssf_of(l);
-    let section = section_actions(ssf, s, sm);
-    let path = path_actions(section.tsf, p, pm);
-    let all = Causes {
-        line: line_causes(l),
-        section: section_causes(ssf, s),
-        path: causes,
-    };
-    let head = head_of(d);
+    let ssf = ssf_of(d.line);
+    let section = section_actions(ssf, d.section, sm);
     Report {
         standing: d,
-        section: section,
-        path: path,
-        causes: all,
-        head: head,
+        section,
+        path: path_actions(section.tsf, d.path, pm),
+        causes: Causes {
+            line: line_causes(d.line),
+            section: section_causes(ssf, d.section),
+            path: causes,
+        },
+        head: head_of(d),
     }
 }
 
@@ -294,41 +281,14 @@ pub fn report_with(causes: PathCauses, d: Standing, sm: u8, pm: u8) -> Report
 pub fn report_of(d: Standing, sm: u8, pm: u8) -> Report
     ensures { result ≡ report_of d sm pm }
 {
-    let p = d.path;
-    let ssf = path_ssf(d);
-    let causes = path_causes(ssf, p);
-    report_with(causes, d, sm, pm)
+    report_with(path_causes(path_ssf(d), d.path), d, sm, pm)
 }
 
 // Nothing stands: what a refusal reports.
 pub fn nothing() -> Standing
     ensures { result ≡ nothing_stands }
 {
-    Standing {
-        line: Line {
-            inframe: false,
-            inmulti: false,
-            tsf: false,
-            ais: false,
-            lof: false,
-            lom: false,
-        },
-        section: SectionStands {
-            tim: false,
-            disabled: false,
-            bdi: false,
-            iae: false,
-            biae: false,
-            deg: false,
-        },
-        path: PathStands {
-            signal: Signal::Clear,
-            tim: false,
-            disabled: false,
-            bdi: false,
-            deg: false,
-        },
-    }
+    Standing::default()
 }
 
 // The report of nothing.
@@ -336,6 +296,5 @@ pub fn nothing() -> Standing
 pub fn no_report() -> Report
     ensures { result ≡ no_report }
 {
-    let d = nothing();
-    report_of(d, 0, 0)
+    report_of(nothing(), 0, 0)
 }

@@ -1,8 +1,8 @@
 -- Laws of what is told of the levels: a turn of a loop over them, and that levels with which nothing changed are not told. Assumes nothing.
-use Prim.Native.Nat.{ℕ, zero, suc, ◌+◌, ◌-◌, ◌≤◌, ◌<◌}
-use mathlib.Core.Path.{◌≡◌, refl}
+use Prim.Native.Nat.{ℕ, zero, suc, ◌+◌, ◌-◌, ◌<◌}
+use mathlib.Core.Path.{◌≡◌, refl, ap, ◌∙◌}
 use mathlib.Core.Bool.{Bool, true, false, cond, ◌&&◌}
-use mathlib.Core.List.{List, [], ◌∷◌, append-nil}
+use mathlib.Core.List.{List, [], ◌∷◌, ◌++◌, append_assoc, append-nil}
 use lib.ListN.{length, get_or}
 use native.Mathlib.Numerals.{add-one}
 use native.Mathlib.Omega.{arith}
@@ -11,8 +11,6 @@ use Rattle.answer.proofs.Each.{any_default}
 use Rattle.names.specs.Names.{same_in, same_trace}
 use Rattle.level.specs.declared.LevelStands.{LevelStands}
 use Rattle.tandem.specs.Tandem.{nothing}
-use Rattle.listing.specs.Wrote.{Wrote}
-use Rattle.listing.proofs.Wrotes.{wrote_then, wrote_more}
 use Rattle.conditions.specs.Conditions.{Named, change_of, changes_of, level_conditions, level_changes}
 use Rattle.change.specs.declared.Seen.{Seen}
 use Rattle.change.specs.Change.{levels_to, words_of, level_trace, unseen, trace_of, told_of, trace_change, standing_changes, trace_changes, LevelsUntold}
@@ -25,14 +23,14 @@ number_is g xs ys i e e₁ e₂ h k =
     rw (add-one i, n, any_default xs i e₁ e h, any_default ys i e₂ e k)
 
 -- a turn of the loop: one level more is told
-pub told_turn : {A : Type 0} {n m at p r : ℕ} {d o₁ o₂ : List ℕ} (g : ℕ → A → A → List ℕ) (xs ys : List A) (i k : ℕ) (e e₁ e₂ : A)
-    → i < length xs → i < length ys → n + m ≤ k
-    → Wrote n d at p o₁ (levels_to (λ (j : ℕ). g j (get_or xs (j - 1) e) (get_or ys (j - 1) e)) i)
-    → Wrote m o₁ p r o₂ (g (i + 1) (get_or xs i e₁) (get_or ys i e₂))
-    → Wrote k d at r o₂ (levels_to (λ (j : ℕ). g j (get_or xs (j - 1) e) (get_or ys (j - 1) e)) (i + 1))
+pub told_turn : {A : Type 0} {o₁ o₂ : List ℕ} (d : List ℕ) (g : ℕ → A → A → List ℕ) (xs ys : List A) (i : ℕ) (e e₁ e₂ : A) → i < length xs → i < length ys
+    → o₁ ≡ d ++ levels_to (λ (j : ℕ). g j (get_or xs (j - 1) e) (get_or ys (j - 1) e)) i
+    → o₂ ≡ o₁ ++ g (i + 1) (get_or xs i e₁) (get_or ys i e₂)
+    → o₂ ≡ d ++ levels_to (λ (j : ℕ). g j (get_or xs (j - 1) e) (get_or ys (j - 1) e)) (i + 1)
 unfolding levels_to
-told_turn g xs ys i k e e₁ e₂ h l b x y =
-    rw (add-one i) (wrote_more k b (wrote_then x (rw (number_is g xs ys i e e₁ e₂ h l) at y)))
+told_turn {A} {o₁} {o₂} d g xs ys i e e₁ e₂ h k x y =
+    let f = λ (j : ℕ). g j (get_or xs (j - 1) e) (get_or ys (j - 1) e) in
+    rw (add-one i) (y ∙ ap (λ (o : List ℕ). o ++ g (i + 1) (get_or xs i e₁) (get_or ys i e₂)) x ∙ append_assoc d (levels_to f i) (g (i + 1) (get_or xs i e₁) (get_or ys i e₂)) ∙ ap (λ (l : List ℕ). d ++ (levels_to f i ++ l)) (number_is g xs ys i e e₁ e₂ h k))
 
 -- what is as it was is not told
 change_untold : (name : List ℕ) (b : Bool) → change_of name b b ≡ []

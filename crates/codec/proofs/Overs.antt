@@ -1,16 +1,19 @@
 -- Laws of writing over: a byte, one writing after another, all of the bytes. Assumes nothing.
 use Prim.Native.Nat.{ℕ, ◌+◌, ◌-◌, ◌≤◌, ◌<◌}
 use mathlib.Core.Path.{◌≡◌, refl, ◌∙◌, ap, sym}
-use mathlib.Core.List.{List, [], ◌∷◌, append-nil}
+use mathlib.Core.List.{List, [], ◌∷◌, ◌++◌, append-nil, append_assoc}
 use native.Mathlib.Omega.{arith}
-use lib.Dec.{leb, ltb}
+use lib.Dec.{leb}
 use lib.ListN.{length, get_or, take, drop, replicate, length-drop, length-replicate, drop_of_length-le}
-use lib.Seq.{take_all, length-take-le, get_or-take, get_or-drop}
-use borrow.Author.Tests.{le-leb, lt-leb, leb-true, ltb-true, ltb-false}
+use lib.Seq.{drop-drop, take_all, length-take-le, get_or-take, get_or-drop}
+use borrow.Author.Tests.{le-leb, lt-leb, leb-true}
 use Rattle.answer.proofs.Cond.{by_cond}
 use Rattle.answer.specs.Over.{over}
 use Rattle.answer.proofs.Overs.{over_nil}
-use Rattle.codec.specs.Over.{bytes_in, laid, least_of, poured}
+use Rattle.codec.specs.Over.{bytes_in, laid, poured}
+use borrow.Rule.Slice.PartMut.{put_mid}
+use Rattle.std.proofs.Common.{min}
+use Rattle.std.proofs.lemmas.List.{take_min}
 
 -- all of the bytes
 pub over_all : (d v : List ℕ) → length v ≡ length d → over d 0 v ≡ v
@@ -30,21 +33,25 @@ unfolding laid
 laid_within d at [] h = by_cond (λ (l : List ℕ). l ≡ over d at []) (leb (at + 0) (length d)) (λ _. refl) (λ _. over_nil d at)
 laid_within d at (x ∷ v) h = laid_room d at (x ∷ v) (omega arith)
 
--- what is copied byte by byte up to the lesser length is what there is room for
-pub least_low : (a b : ℕ) → least_of a b ≤ b
-unfolding least_of
-least_low a b = by_cond (λ (m : ℕ). m ≤ b) (ltb a b) (λ t. let h = ltb-true a b t in omega arith) (λ t. omega arith)
+-- what a slice holds once v has been copied over a part of it
+pub put_over : (d v w : List ℕ) (at k : ℕ) → w ≡ v → k ≡ length v → put_mid at k d w ≡ over d at v
+unfolding over
+put_over d v w at k e n =
+    ap (λ (x : List ℕ). put_mid at k d x) e
+    ∙ ap (λ (m : ℕ). put_mid at m d v) n
+    ∙ ap (λ (r : List ℕ). take at d ++ (v ++ r)) (drop-drop (length v) at d)
+    ∙ sym (append_assoc (take at d) v (drop (at + length v) d))
 
-pub least_left : (a b : ℕ) → least_of a b ≤ a
-unfolding least_of
-least_left a b = by_cond (λ (m : ℕ). m ≤ a) (ltb a b) (λ t. omega arith) (λ t. ltb-false a b t)
+pub put_laid : (d v w : List ℕ) (at k : ℕ) → w ≡ v → k ≡ length v → at + length v ≤ length d → put_mid at k d w ≡ laid d at v
+put_laid d v w at k e n h = put_over d v w at k e n ∙ sym (laid_room d at v h)
 
-pub take_least : (v d : List ℕ) → take (least_of (length v) (length d)) v ≡ take (length d) v
-unfolding least_of
-take_least v d =
-    by_cond (λ (m : ℕ). take m v ≡ take (length d) v) (ltb (length v) (length d))
-    (λ t. let h = ltb-true (length v) (length d) t in take_all (length v) v (omega arith) ∙ sym (take_all (length d) v (omega arith)))
-    (λ t. refl)
+-- the first of v, as many as there is room for, in front of what is behind them
+pub put_poured : (d v w : List ℕ) (n : ℕ) → n ≡ min (length d) (length v) → w ≡ take n v → w ++ drop n d ≡ poured d v
+unfolding poured over
+put_poured d v w n e h =
+    let t : take n v ≡ take (length d) v = ap (λ (m : ℕ). take m v) e ∙ take_min (length d) v in
+    let k : n ≡ 0 + length (take (length d) v) = omega (arith, ap length t, length-take-le n v (omega arith)) in
+    rw (h, t) (ap (λ (m : ℕ). take (length d) v ++ drop m d) k)
 
 -- what a writing leaves that asks first whether there is room for its k bytes
 pub laid_done : (d : List ℕ) (at k : ℕ) (v o : List ℕ) → length v ≡ k → at + k ≤ length d → o ≡ over d at v → o ≡ laid d at v

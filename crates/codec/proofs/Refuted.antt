@@ -2,6 +2,8 @@
 use mathlib.Core.Path.{◌≡◌, ap, sym, ◌∙◌}
 use mathlib.Core.List.{List, [], ◌∷◌}
 use Prim.Native.Nat.{ℕ}
+use mir.Syntax.{w64}
+use mir.Val.{Fits}
 use native.Mathlib.Omega.{arith}
 use contract.Lifetimes.{Lfts}
 use borrow.Fn.Kinds.{Dens, ended_of}
@@ -9,33 +11,27 @@ use denote.Triple.Clauses.{AtExit}
 use lib.ListN.{length, get_or, replicate}
 use Rattle.answer.specs.Over.{over}
 use Rattle.codec.specs.Over.{bytes_in, laid, poured}
-use Rattle.codec.proofs.band_in.Kinds as band_in_kinds
-use Rattle.codec.proofs.band_in.Reads as band_in_reads
-use Rattle.codec.proofs.strip_in.Kinds as strip_in_kinds
-use Rattle.codec.proofs.strip_in.Reads as strip_in_reads
+use Rattle.codec.proofs.array_in.Kinds as array_in_kinds
+use Rattle.codec.proofs.array_in.Reads as array_in_reads
 use Rattle.codec.proofs.lay_bytes.Kinds as lay_bytes_kinds
 use Rattle.codec.proofs.lay_bytes.Reads as lay_bytes_reads
-use Rattle.codec.proofs.lay_band.Kinds as lay_band_kinds
-use Rattle.codec.proofs.lay_band.Reads as lay_band_reads
-use Rattle.codec.proofs.lay_strip.Kinds as lay_strip_kinds
-use Rattle.codec.proofs.lay_strip.Reads as lay_strip_reads
 use Rattle.codec.proofs.pour.Kinds as pour_kinds
 use Rattle.codec.proofs.pour.Reads as pour_reads
 
--- band_in: beyond the bytes a trace is zeros, and not sevens
-pub sevens_beyond : (κs : Lfts 1) (a : Dens κs band_in_kinds.ps) (s : AtExit (ended_of 1 band_in_kinds.ps band_in_kinds.r) κs)
-    → a.0.now ≡ [] → a.1.0 ≡ 0 → band_in_reads.Post κs a (replicate 64 7) s → ⊥
+-- array_in, at 64: beyond the bytes a trace is zeros, and not sevens
+pub sevens_beyond : (f : Fits w64 64) (κs : Lfts 2) (a : Dens κs (array_in_kinds.ps 64 f)) (s : AtExit (ended_of 2 (array_in_kinds.ps 64 f) (array_in_kinds.r 64 f)) κs)
+    → a.0.now ≡ [] → a.1.0 ≡ 0 → array_in_reads.Post 64 f κs a (replicate 64 7) s → ⊥
 unfolding bytes_in
-sevens_beyond κs a s b at e =
+sevens_beyond f κs a s b at e =
     let h : replicate 64 7 ≡ bytes_in 64 0 [] = rw (b, at) at e in
     let z : ◌≡◌ {A = ℕ} 7 0 = ap (λ (l : List ℕ). get_or l 0 0) h in
     omega arith
 
--- strip_in: bytes are read from their place, and not from the start
-pub read_from_start : (κs : Lfts 1) (a : Dens κs strip_in_kinds.ps) (s : AtExit (ended_of 1 strip_in_kinds.ps strip_in_kinds.r) κs)
-    → a.0.now ≡ 9 ∷ replicate 32 0 → a.1.0 ≡ 1 → strip_in_reads.Post κs a (9 ∷ replicate 31 0) s → ⊥
+-- array_in, at 32: bytes are read from their place, and not from the start
+pub read_from_start : (f : Fits w64 32) (κs : Lfts 2) (a : Dens κs (array_in_kinds.ps 32 f)) (s : AtExit (ended_of 2 (array_in_kinds.ps 32 f) (array_in_kinds.r 32 f)) κs)
+    → a.0.now ≡ 9 ∷ replicate 32 0 → a.1.0 ≡ 1 → array_in_reads.Post 32 f κs a (9 ∷ replicate 31 0) s → ⊥
 unfolding bytes_in
-read_from_start κs a s b at e =
+read_from_start f κs a s b at e =
     let h : 9 ∷ replicate 31 0 ≡ bytes_in 32 1 (9 ∷ replicate 32 0) = rw (b, at) at e in
     let z : ◌≡◌ {A = ℕ} 9 0 = ap (λ (l : List ℕ). get_or l 0 0) h in
     omega arith
@@ -49,18 +45,18 @@ bytes_in_part κs a s b at v end e =
     let z : ◌≡◌ {A = ℕ} 7 0 = ap (λ (l : List ℕ). get_or l 1 0) h in
     omega arith
 
--- lay_band: the bytes behind what is laid stay
-pub rest_cut : (κs : Lfts 1) (a : Dens κs lay_band_kinds.ps) (s : AtExit (ended_of 1 lay_band_kinds.ps lay_band_kinds.r) κs)
-    → a.0.now ≡ replicate 65 0 → a.1.0 ≡ 0 → a.1.1.0 ≡ replicate 64 7 → s.0.now ≡ replicate 64 7 → lay_band_reads.Post κs a tt s → ⊥
+-- lay_bytes, of 64: the bytes behind what is laid stay
+pub rest_cut : (κs : Lfts 2) (a : Dens κs lay_bytes_kinds.ps) (s : AtExit (ended_of 2 lay_bytes_kinds.ps lay_bytes_kinds.r) κs)
+    → a.0.now ≡ replicate 65 0 → a.1.0 ≡ 0 → a.1.1.0.now ≡ replicate 64 7 → s.0.now ≡ replicate 64 7 → lay_bytes_reads.Post κs a tt s → ⊥
 unfolding laid over
 rest_cut κs a s b at t end e =
     let h : replicate 64 7 ≡ laid (replicate 65 0) 0 (replicate 64 7) = sym end ∙ rw (b, at, t) at e in
     let z : ◌≡◌ {A = ℕ} 64 65 = ap length h in
     omega arith
 
--- lay_strip: where there is no room for all of them nothing is laid
-pub strip_in_part : (κs : Lfts 1) (a : Dens κs lay_strip_kinds.ps) (s : AtExit (ended_of 1 lay_strip_kinds.ps lay_strip_kinds.r) κs)
-    → a.0.now ≡ replicate 31 0 → a.1.0 ≡ 0 → a.1.1.0 ≡ replicate 32 7 → s.0.now ≡ replicate 31 7 → lay_strip_reads.Post κs a tt s → ⊥
+-- lay_bytes, of 32: where there is no room for all of them nothing is laid
+pub strip_in_part : (κs : Lfts 2) (a : Dens κs lay_bytes_kinds.ps) (s : AtExit (ended_of 2 lay_bytes_kinds.ps lay_bytes_kinds.r) κs)
+    → a.0.now ≡ replicate 31 0 → a.1.0 ≡ 0 → a.1.1.0.now ≡ replicate 32 7 → s.0.now ≡ replicate 31 7 → lay_bytes_reads.Post κs a tt s → ⊥
 unfolding laid over
 strip_in_part κs a s b at t end e =
     let h : replicate 31 7 ≡ laid (replicate 31 0) 0 (replicate 32 7) = sym end ∙ rw (b, at, t) at e in

@@ -2,34 +2,42 @@
 use mathlib.Core.Path.{sym, ◌∙◌}
 use mathlib.Core.List.{List}
 use Prim.Native.Nat.{ℕ}
+use mir.Syntax.{w64}
+use mir.Val.{Fits}
+use mir.Facts.{Fits-lit}
 use Rattle.answer.specs.Answer.{OneAnswer, OneEnd}
-use Rattle.codec.proofs.band_in.Kinds as band_in_kinds
-use Rattle.codec.proofs.band_in.Reads as band_in_reads
-use Rattle.codec.proofs.strip_in.Kinds as strip_in_kinds
-use Rattle.codec.proofs.strip_in.Reads as strip_in_reads
+use Rattle.codec.proofs.array_in.Kinds as array_in_kinds
+use Rattle.codec.proofs.array_in.Reads as array_in_reads
 use Rattle.codec.proofs.lay_bytes.Kinds as lay_bytes_kinds
 use Rattle.codec.proofs.lay_bytes.Reads as lay_bytes_reads
-use Rattle.codec.proofs.lay_band.Kinds as lay_band_kinds
-use Rattle.codec.proofs.lay_band.Reads as lay_band_reads
-use Rattle.codec.proofs.lay_strip.Kinds as lay_strip_kinds
-use Rattle.codec.proofs.lay_strip.Reads as lay_strip_reads
 use Rattle.codec.proofs.pour.Kinds as pour_kinds
 use Rattle.codec.proofs.pour.Reads as pour_reads
 
-pub band_in_one : OneAnswer 1 band_in_kinds.ps band_in_kinds.r band_in_reads.Post
-band_in_one κs a x y s t p q = p ∙ sym q
+-- array_in, of every length: of a band and of a strip too
+pub array_in_one : (N : ℕ) (f : Fits w64 N) → OneAnswer 2 (array_in_kinds.ps N f) (array_in_kinds.r N f) (array_in_reads.Post N f)
+array_in_one N f κs a x y s t p q = p ∙ sym q
 
-pub strip_in_one : OneAnswer 1 strip_in_kinds.ps strip_in_kinds.r strip_in_reads.Post
-strip_in_one κs a x y s t p q = p ∙ sym q
+abbrev pub band_fits : Fits w64 64
+band_fits = Fits-lit tt
 
+abbrev pub strip_fits : Fits w64 32
+strip_fits = Fits-lit tt
+
+pub band_in_one : OneAnswer 2 (array_in_kinds.ps 64 band_fits) (array_in_kinds.r 64 band_fits) (array_in_reads.Post 64 band_fits)
+band_in_one = array_in_one 64 band_fits
+
+pub strip_in_one : OneAnswer 2 (array_in_kinds.ps 32 strip_fits) (array_in_kinds.r 32 strip_fits) (array_in_reads.Post 32 strip_fits)
+strip_in_one = array_in_one 32 strip_fits
+
+-- lay_bytes, of every length: of a band and of a strip too
 pub lay_bytes_end : OneEnd 2 lay_bytes_kinds.ps lay_bytes_kinds.r (List ℕ) (λ κs s. s.0.now) lay_bytes_reads.Post
 lay_bytes_end κs a x y s t p q = p ∙ sym q
 
-pub lay_band_end : OneEnd 1 lay_band_kinds.ps lay_band_kinds.r (List ℕ) (λ κs s. s.0.now) lay_band_reads.Post
-lay_band_end κs a x y s t p q = p ∙ sym q
+pub lay_band_end : OneEnd 2 lay_bytes_kinds.ps lay_bytes_kinds.r (List ℕ) (λ κs s. s.0.now) lay_bytes_reads.Post
+lay_band_end = lay_bytes_end
 
-pub lay_strip_end : OneEnd 1 lay_strip_kinds.ps lay_strip_kinds.r (List ℕ) (λ κs s. s.0.now) lay_strip_reads.Post
-lay_strip_end κs a x y s t p q = p ∙ sym q
+pub lay_strip_end : OneEnd 2 lay_bytes_kinds.ps lay_bytes_kinds.r (List ℕ) (λ κs s. s.0.now) lay_bytes_reads.Post
+lay_strip_end = lay_bytes_end
 
 pub pour_end : OneEnd 2 pour_kinds.ps pour_kinds.r (List ℕ) (λ κs s. s.0.now) pour_reads.Post
 pour_end κs a x y s t p q = p ∙ sym q

@@ -1,4 +1,3 @@
 pub mod Changes
-pub mod Names
 pub mod Refuted
 pub mod Unique

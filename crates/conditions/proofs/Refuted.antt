@@ -1,14 +1,9 @@
--- Contents that a tempting reading would give, shut out by the contract at one input. Assumes nothing.
-use Prim.Native.Nat.{ℕ}
-use mathlib.Core.Path.{◌≡◌, sym, ◌∙◌, ap}
-use mathlib.Core.Bool.{true, false}
-use mathlib.Core.List.{List}
-use lib.ListN.{get_or, replicate}
-use native.Mathlib.Omega.{arith}
+-- Contents and lengths that a tempting reading would give, shut out by the contract at one input. Assumes nothing.
+use Rattle.std.proofs.Common.{◌≡◌, ℕ, List, [], true, false, Fits, w64, length, ap, sym, ◌∙◌, arith}
+use Rattle.std.proofs.Math.ListN.{get_or}
 use contract.Lifetimes.{Lfts}
-use borrow.Fn.Kinds.{Dens, ended_of}
+use borrow.Fn.Kinds.{Dens, ended_of, res_t}
 use denote.Triple.Clauses.{AtExit}
-use Rattle.answer.specs.Over.{over}
 use Rattle.signal.specs.declared.Signal.TheVariants.{Clear}
 use Rattle.causes.specs.declared.Report.{Report}
 use Rattle.causes.specs.Causes.{ssf_of, tim_acts, head_of, report_of, nothing_stands, no_report}
@@ -32,13 +27,13 @@ in_frame =
     }) 0 0
 
 -- what was raised has a plus
-pub raised_with_minus : (κs : Lfts 1) (a : Dens κs kinds.ps) (r : ℕ) (s : AtExit (ended_of 1 kinds.ps kinds.r) κs)
-    → a.0 ≡ no_report → a.1.0 ≡ in_frame → a.1.1.0.now ≡ replicate 380 0 → a.1.1.1.0 ≡ 0
-    → s.1.1.0.now ≡ over (replicate 380 0) 0 (bytes " -IF") → reads.Post κs a r s → ⊥
-unfolding fitted over condition_changes changes_of change_of conditions report_of no_report head_of tim_acts ssf_of
-raised_with_minus κs a r s before after d at o p =
-    let e : s.1.1.0.now ≡ over (replicate 380 0) 0 (bytes " +IF") = rw (before, after, d, at) at p.1 in
-    let h : ◌≡◌ {A = ℕ} 45 43 = ap (λ (l : List ℕ). get_or l 1 0) (sym o ∙ e) in
+pub raised_with_minus : (h : Fits w64 380) (κs : Lfts 4) (a : Dens κs (kinds.ps 380 h)) (r : (res_t (kinds.r 380 h) κs).Denot) (s : AtExit (ended_of 4 (kinds.ps 380 h) (kinds.r 380 h)) κs)
+    → a.0.now ≡ no_report → a.1.0.now ≡ in_frame → a.1.1.0.now.items ≡ []
+    → s.1.1.0.now.items ≡ bytes " -IF" → reads.Post 380 h κs a r s → ⊥
+unfolding fitted condition_changes changes_of change_of conditions report_of no_report head_of tim_acts ssf_of
+raised_with_minus h κs a r s before after d o p =
+    let e : s.1.1.0.now.items ≡ bytes " +IF" = rw (before, after, d) at (reads.post-apart 380 h κs a r s p).put in
+    let x : ◌≡◌ {A = ℕ} 45 43 = ap (λ (l : List ℕ). get_or l 1 0) (sym o ∙ e) in
     omega arith
 
 -- the path's dTIM and what it brings about
@@ -51,21 +46,21 @@ path_tim =
     }) 0 0
 
 -- the path's dTIM has the path's name: not `+SM.dTIM`
-pub section_named : (κs : Lfts 1) (a : Dens κs kinds.ps) (r : ℕ) (s : AtExit (ended_of 1 kinds.ps kinds.r) κs)
-    → a.0 ≡ no_report → a.1.0 ≡ path_tim → a.1.1.0.now ≡ replicate 380 0 → a.1.1.1.0 ≡ 0
-    → get_or s.1.1.0.now 2 0 ≡ 83 → reads.Post κs a r s → ⊥
-unfolding fitted over condition_changes changes_of change_of conditions report_of no_report head_of tim_acts ssf_of
-section_named κs a r s before after d at o p =
-    let e : get_or s.1.1.0.now 2 0 ≡ 80 = ap (λ (l : List ℕ). get_or l 2 0) (rw (before, after, d, at) at p.1) in
-    let h : ◌≡◌ {A = ℕ} 83 80 = sym o ∙ e in
+pub section_named : (h : Fits w64 380) (κs : Lfts 4) (a : Dens κs (kinds.ps 380 h)) (r : (res_t (kinds.r 380 h) κs).Denot) (s : AtExit (ended_of 4 (kinds.ps 380 h) (kinds.r 380 h)) κs)
+    → a.0.now ≡ no_report → a.1.0.now ≡ path_tim → a.1.1.0.now.items ≡ []
+    → get_or s.1.1.0.now.items 2 0 ≡ 83 → reads.Post 380 h κs a r s → ⊥
+unfolding fitted condition_changes changes_of change_of conditions report_of no_report head_of tim_acts ssf_of
+section_named h κs a r s before after d o p =
+    let e : get_or s.1.1.0.now.items 2 0 ≡ 80 = ap (λ (l : List ℕ). get_or l 2 0) (rw (before, after, d) at (reads.post-apart 380 h κs a r s p).put) in
+    let x : ◌≡◌ {A = ℕ} 83 80 = sym o ∙ e in
     omega arith
 
 -- what is as it was is not told
-pub standing_told : (κs : Lfts 1) (a : Dens κs kinds.ps) (s : AtExit (ended_of 1 kinds.ps kinds.r) κs)
-    → a.0 ≡ in_frame → a.1.0 ≡ in_frame → a.1.1.0.now ≡ replicate 380 0 → a.1.1.1.0 ≡ 0 → reads.Post κs a 4 s → ⊥
+pub standing_told : (h : Fits w64 380) (κs : Lfts 4) (a : Dens κs (kinds.ps 380 h)) (r : (res_t (kinds.r 380 h) κs).Denot) (s : AtExit (ended_of 4 (kinds.ps 380 h) (kinds.r 380 h)) κs)
+    → a.0.now ≡ in_frame → a.1.0.now ≡ in_frame → a.1.1.0.now.items ≡ [] → length s.1.1.0.now.items ≡ 4 → reads.Post 380 h κs a r s → ⊥
 unfolding fitted condition_changes changes_of change_of conditions report_of head_of tim_acts ssf_of
-standing_told κs a s before after d at p =
-    let h : ◌≡◌ {A = ℕ} 4 0 = rw (before, after, d, at) at p.0 in
+standing_told h κs a r s before after d o p =
+    let e : length s.1.1.0.now.items ≡ 0 = ap (λ (l : List ℕ). length l) (rw (before, after, d) at (reads.post-apart 380 h κs a r s p).put) in
     omega arith
 
 -- of a level nothing stands, and the loss of its tandem connection
@@ -76,11 +71,11 @@ abbrev lost : LevelStands
 lost = record { ssf = false; status = status.Ltc; tim = false; disabled = false; bdi = false; iae = false; biae = false; deg = false }
 
 -- level 2 has the number 2: ` +TCM2.dLTC +TCM2.aTSF +TCM2.cLTC`
-pub level_from_0 : (κs : Lfts 1) (a : Dens κs level_kinds.ps) (r : ℕ) (s : AtExit (ended_of 1 level_kinds.ps level_kinds.r) κs)
-    → a.0 ≡ 2 → a.1.0 ≡ calm → a.1.1.0 ≡ lost → a.1.1.1.0.now ≡ replicate 228 0 → a.1.1.1.1.0 ≡ 0
-    → s.1.1.1.0.now ≡ over (replicate 228 0) 0 (bytes " +TCM1.dLTC +TCM1.aTSF +TCM1.cLTC") → level_reads.Post κs a r s → ⊥
-unfolding fitted over level_changes level_words under changes_of change_of tim_acts
-level_from_0 κs a r s n before after d at o p =
-    let e : s.1.1.1.0.now ≡ over (replicate 228 0) 0 (bytes " +TCM2.dLTC +TCM2.aTSF +TCM2.cLTC") = rw (n, before, after, d, at) at p.1 in
-    let h : ◌≡◌ {A = ℕ} 49 50 = ap (λ (l : List ℕ). get_or l 5 0) (sym o ∙ e) in
+pub level_from_0 : (h : Fits w64 228) (κs : Lfts 4) (a : Dens κs (level_kinds.ps 228 h)) (r : (res_t (level_kinds.r 228 h) κs).Denot) (s : AtExit (ended_of 4 (level_kinds.ps 228 h) (level_kinds.r 228 h)) κs)
+    → a.0 ≡ 2 → a.1.0.now ≡ calm → a.1.1.0.now ≡ lost → a.1.1.1.0.now.items ≡ []
+    → s.1.1.1.0.now.items ≡ bytes " +TCM1.dLTC +TCM1.aTSF +TCM1.cLTC" → level_reads.Post 228 h κs a r s → ⊥
+unfolding fitted level_changes level_words under changes_of change_of tim_acts
+level_from_0 h κs a r s n before after d o p =
+    let e : s.1.1.1.0.now.items ≡ bytes " +TCM2.dLTC +TCM2.aTSF +TCM2.cLTC" = rw (n, before, after, d) at (level_reads.post-apart 228 h κs a r s p).put in
+    let x : ◌≡◌ {A = ℕ} 49 50 = ap (λ (l : List ℕ). get_or l 5 0) (sym o ∙ e) in
     omega arith

@@ -1,5 +1,5 @@
 -- Laws of bytes in parts: a list is its parts, one part is read or changed and the others stay, a small part is written whole. Assumes nothing.
-use Prim.Native.Nat.{ℕ, zero, suc, ◌+◌, ◌<◌}
+use Prim.Native.Nat.{ℕ, zero, suc, ◌+◌, ◌<◌, ◌≤◌}
 use mathlib.Core.Path.{◌≡◌, refl, sym}
 use mathlib.Core.List.{List, [], ◌∷◌, ◌++◌}
 use native.Mathlib.Omega.{arith}
@@ -42,10 +42,9 @@ sized_back i [] v z e = tt
 sized_back zero (p ∷ ps) v z e = (e, z.1)
 sized_back (suc i) (p ∷ ps) v z e = (z.0, sized_back i ps v z.1 e)
 
--- a small part written whole
-pub three : (w : List ℕ) (x y z : ℕ) → length w ≡ 3 → set (set (set w 0 x) 1 y) 2 z ≡ x ∷ y ∷ z ∷ []
-three (a ∷ b ∷ c ∷ []) x y z e = refl
+-- the first three numbers of others written
+pub three : (w : List ℕ) (x y z : ℕ) → 3 ≤ length w → set (set (set w 0 x) 1 y) 2 z ≡ x ∷ y ∷ z ∷ drop 3 w
+three (a ∷ b ∷ c ∷ l) x y z e = refl
 three [] x y z e = absurd (omega arith)
 three (a ∷ []) x y z e = absurd (omega arith)
 three (a ∷ b ∷ []) x y z e = absurd (omega arith)
-three (a ∷ b ∷ c ∷ d ∷ l) x y z e = absurd (omega arith)

@@ -1,15 +1,16 @@
 -- A layer's trace in its record: the three numbers of its cycle and its three traces after a frame, and dTIM; the rest of the record is as it
 -- stood. Assumes nothing.
-use Rattle.std.specs.Prelude.{◌≡◌, Bool, false, cond, ◌&&◌, ◌||◌, not, List, [], ◌∷◌, ℕ, ◌%◌, eqb, length, get_or}
+use Rattle.std.specs.Prelude.{◌≡◌, Bool, false, cond, List, [], ◌∷◌, ℕ, ◌%◌, eqb, length, get_or}
 use Rattle.answer.specs.Bits.{flag}
 use Rattle.codec.specs.Over.{bytes_in}
 use Rattle.codec.specs.Pieces.{Piece, piece, joined}
 use Rattle.filter.specs.Filter.{quiet}
 use Rattle.alignment.specs.declared.Multi.{Multi}
-use Rattle.names.specs.Names.{compared_of}
 use Rattle.layer.specs.declared.Layer.{Layer}
+use Rattle.layer.specs.declared.Cycle.{Cycle}
+pub use Rattle.layer.specs.Layer.{tim_in}
 use Rattle.layer.specs.Steps.{parts}
-use Rattle.cycle.specs.declared.Cycle.{Cycle}
+pub use Rattle.layer.specs.Steps.{cycle_of}
 
 -- The numbers of a cycle in their three bytes.
 
@@ -36,23 +37,12 @@ traced b c = record {
 abbrev pub cycle_step : List ℕ → Cycle → Bool → Multi → ℕ → Layer
 cycle_step b c forget m tti = parts (traced b c) forget m.inmulti m.number tti quiet
 
-abbrev pub cycle_of : Layer → Cycle
-cycle_of l = record { known = l.known; gathering = l.gathering; equal = l.equal }
-
 abbrev pub traces_of : Layer → List ℕ
 traces_of l = joined (piece 64 l.accepted ∷ piece 64 l.gathered ∷ piece 64 l.previous ∷ [])
 
 -- a multiframe by its state and its local number, which is all that a trace asks of it
 abbrev pub multi_by : Bool → ℕ → Multi
 multi_by inmulti number = record { inmulti = inmulti; number = number; misses = 0; known = false; previous = 0 }
-
--- "dTIM: a trace is accepted and the compared field differs. Mode 0 off, 1 SAPI, 2 DAPI, 3 both (either differing suffices)."
-abbrev pub tim_in : Bool → List ℕ → ℕ → List ℕ → Bool
-tim_in known accepted mode names =
-    cond known
-    (((eqb mode 1 || eqb mode 3) && not (compared_of accepted names).sapi)
-    || ((eqb mode 2 || eqb mode 3) && not (compared_of accepted names).dapi))
-    false
 
 -- A layer's record: its front, its cycle's numbers, its other numbers, its traces, its names.
 

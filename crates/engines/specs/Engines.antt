@@ -8,10 +8,9 @@ use Rattle.lookup.specs.Lookup.{report_by_table}
 use Rattle.supervisor.specs.Supervisor.{stands_after, frame_of}
 use Rattle.supervisor.specs.declared.Supervisor.{Supervisor}
 use Rattle.tandem.specs.Levels.{framed_levels}
-use Rattle.tandem.specs.Tandem.{frame_refusal, framed_of, nothing, shown_levels}
+use Rattle.tandem.specs.Tandem.{TandemStepped, frame_refusal, framed_of, nothing, shown_levels}
 use Rattle.tandem.specs.declared.Level.{Level}
 use Rattle.tandem.specs.declared.Tandem.{Tandem}
-use Rattle.tandem.specs.declared.TandemStepped.{TandemStepped}
 
 -- an engine: the report of what stands, with a frame's violation counts of section and path
 abbrev pub Engine : Type 0

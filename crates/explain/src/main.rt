@@ -2,6 +2,8 @@
 // lines of the listing.
 #![tactic(auto)]
 
+use reading::Tells;
+
 fn main(rt: HostRuntime) {
-    reading::run(&rt, true, false);
+    reading::run(&rt, Tells::Records);
 }

@@ -1,43 +1,16 @@
--- Laws of a number in its bytes, each written whole. Assumes nothing.
+-- Laws of a number in its bytes. Assumes nothing.
 use Prim.Native.Nat.{ℕ, ◌+◌, ◌≤◌}
-use mathlib.Core.Path.{◌≡◌, refl, ◌∙◌}
+use mathlib.Core.Path.{◌≡◌, ◌∙◌}
 use mathlib.Core.Bool.{Bool}
-use mathlib.Core.List.{List, [], ◌∷◌}
+use mathlib.Core.List.{List}
 use native.Mathlib.Omega.{arith}
-use lib.ListN.{length, set, get_or}
+use lib.ListN.{length}
 use borrow.Author.Tests.{eq-eqb}
 use Rattle.codec.proofs.Overs.{byte_in}
 use Rattle.codec.specs.Over.{bytes_in}
 use Rattle.filter.specs.declared.Filter.{Filter}
 use Rattle.filter.specs.Filter.{filter_of}
-use Rattle.fields.specs.Fields.{sized, filter_at, filter_bytes, FilterStep, raised, flags_in}
-
-pub two : (w : List ℕ) (x y : ℕ) → length w ≡ 2 → set (set w 0 x) 1 y ≡ x ∷ y ∷ []
-two (a ∷ b ∷ []) x y e = refl
-two [] x y e = absurd (omega arith)
-two (a ∷ []) x y e = absurd (omega arith)
-two (a ∷ b ∷ c ∷ l) x y e = absurd (omega arith)
-
-pub four : (w : List ℕ) (x y z u : ℕ) → length w ≡ 4 → set (set (set (set w 0 x) 1 y) 2 z) 3 u ≡ x ∷ y ∷ z ∷ u ∷ []
-four (a ∷ b ∷ c ∷ d ∷ []) x y z u e = refl
-four [] x y z u e = absurd (omega arith)
-four (a ∷ []) x y z u e = absurd (omega arith)
-four (a ∷ b ∷ []) x y z u e = absurd (omega arith)
-four (a ∷ b ∷ c ∷ []) x y z u e = absurd (omega arith)
-four (a ∷ b ∷ c ∷ d ∷ f ∷ l) x y z u e = absurd (omega arith)
-
--- the four flags of the second, each raised or left
-pub flags_is : (w : List ℕ) (a b c d : Bool) → length w ≡ 4
-    → let v : List ℕ = set w 0 (raised a (get_or w 0 0)) in
-    let x : List ℕ = set v 1 (raised b (get_or v 1 0)) in
-    let y : List ℕ = set x 2 (raised c (get_or x 2 0)) in
-    set y 3 (raised d (get_or y 3 0)) ≡ flags_in a b c d w
-flags_is (p ∷ q ∷ r ∷ s ∷ []) a b c d e = refl
-flags_is [] a b c d e = absurd (omega arith)
-flags_is (p ∷ []) a b c d e = absurd (omega arith)
-flags_is (p ∷ q ∷ []) a b c d e = absurd (omega arith)
-flags_is (p ∷ q ∷ r ∷ []) a b c d e = absurd (omega arith)
-flags_is (p ∷ q ∷ r ∷ s ∷ t ∷ l) a b c d e = absurd (omega arith)
+use Rattle.fields.specs.Fields.{sized, filter_at, filter_bytes, FilterStep, stat_at}
 
 -- In bytes of its own length a number is what is said of it there.
 
@@ -54,3 +27,12 @@ filter_in w at h =
     let x = byte_in 2 at 0 at w h (omega arith) (omega arith) in
     let y = byte_in 2 at 1 (at + 1) w h (omega arith) (omega arith) in
     rw (x, y)
+
+-- and a STAT read from its four bytes
+pub stat_in : (w : List ℕ) (at : ℕ) → at + 4 ≤ length w → stat_at (bytes_in 4 at w) 0 ≡ stat_at w at
+stat_in w at h =
+    let x = byte_in 4 at 0 at w h (omega arith) (omega arith) in
+    let y = byte_in 4 at 1 (at + 1) w h (omega arith) (omega arith) in
+    let z = byte_in 4 at 2 (at + 2) w h (omega arith) (omega arith) in
+    let v = byte_in 4 at 3 (at + 3) w h (omega arith) (omega arith) in
+    rw (x, y, z, v)

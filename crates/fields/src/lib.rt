@@ -1,68 +1,66 @@
 // The numbers of a layer's state in lent bytes: a filter, a STAT, the flags, counts and sum of the second. Each function takes any bytes: those
-// of another length than the number's are not written.
+// of another length than the number's are not written (a parameter `&mut [u8; 2]` would ask more of callers), and `x % 256` of a count is a cast that no `From` makes.
 #![tactic(auto)]
 
-ghost use Rattle.std.specs.Prelude.{◌≡◌, ◌<◌, length, set, get_or};
-ghost use Rattle.fields.specs.Fields.{counted_by, counts_in, FilterStep, stat_laid, raised, flags_laid};
+ghost use Rattle.std.specs.Prelude.{◌≡◌, ◌&&◌, not, leb};
+ghost use Rattle.overhead.specs.Bei.{is_far};
+ghost use Rattle.second.specs.Second.{counted_of};
+ghost use Rattle.fields.specs.Fields.{counted_by, counts_in, FilterStep, stat_at, stat_laid, flags_laid};
 
 use filter::{Filter, Stat};
-
-fn wide(x: u8) -> u32
-    ensures { result ≡ x }
-{
-    x as u32
-}
+use overhead::Bei;
 
 // A filter in its two bytes: stepped, and written back.
-#[tactic(auto, using(crate::proofs::Parts::two))]
 pub fn filter_at(w: &mut [u8], n: u32, forget: bool, bit: bool) -> Filter
     ensures { FilterStep w.old n forget bit result w.new }
 {
-    if w.len() == 2 {
-        let run = wide(w[1]);
-        let before = Filter {
-            on: w[0] == 1,
-            run: run,
-        };
-        let after = filter::filter_step(before, n, forget, bit);
-        w[0] = after.on as u8;
-        w[1] = (after.run % 256) as u8;
-        return after;
+    match w.as_mut_array::<2>() {
+        Some(bytes) => {
+            let before = Filter {
+                on: bytes[0] == 1,
+                run: u32::from(bytes[1]),
+            };
+            let after = filter::filter_step(before, n, forget, bit);
+            *bytes = [u8::from(after.on), (after.run % 256) as u8];
+            after
+        }
+        None => Filter::default(),
     }
-    Filter { on: false, run: 0 }
+}
+
+// A STAT from its four bytes.
+pub fn stat_in(w: [u8; 4]) -> Stat
+    ensures { result ≡ stat_at w 0 }
+{
+    let [value, run, known, accepted] = w;
+    Stat {
+        value,
+        run: u32::from(run),
+        known: known == 1,
+        accepted,
+    }
 }
 
 // A STAT in its four bytes.
-#[tactic(auto, using(crate::proofs::Parts::four))]
 pub fn lay_stat(w: &mut [u8], s: Stat)
     ensures { w.new ≡ stat_laid w.old s }
 {
-    if w.len() == 4 {
-        w[0] = s.value;
-        w[1] = (s.run % 256) as u8;
-        w[2] = s.known as u8;
-        w[3] = s.accepted;
+    if let Some(bytes) = w.as_mut_array::<4>() {
+        *bytes = [s.value, (s.run % 256) as u8, u8::from(s.known), s.accepted];
     }
 }
 
-// A flag of the second: once raised it stays. It is written either way, so that the work is the same.
-fn raise(w: &mut [u8], i: usize, more: bool)
-    requires { i < length w.old }
-    ensures { w.new ≡ set w.old i (raised more (get_or w.old i 0)) }
-{
-    w[i] = w[i] | more as u8;
-}
-
-// The four flags of the second.
-#[tactic(auto, using(crate::proofs::Parts::flags_is))]
+// The four flags of the second: once raised they stay. All are written either way, so that the work is the same.
 pub fn flags_at(w: &mut [u8], near: bool, far: bool, iae: bool, biae: bool)
     ensures { w.new ≡ flags_laid near far iae biae w.old }
 {
-    if w.len() == 4 {
-        raise(w, 0, near);
-        raise(w, 1, far);
-        raise(w, 2, iae);
-        raise(w, 3, biae);
+    if let Some(flags) = w.as_mut_array::<4>() {
+        *flags = [
+            flags[0] | u8::from(near),
+            flags[1] | u8::from(far),
+            flags[2] | u8::from(iae),
+            flags[3] | u8::from(biae),
+        ];
     }
 }
 
@@ -82,4 +80,13 @@ pub fn counts_at(w: &mut [u8], near: bool, far: bool, more: u32)
     words::add_at(w, 0, more, 3200000);
     bump(w, 1, near);
     bump(w, 2, far);
+}
+
+// What a frame adds to them: its violation count, and what its BEI says of the far end. Nothing where counting is stopped.
+pub fn frame_at(w: &mut [u8], violations: u8, read: Bei, stops: bool)
+    ensures { w.new ≡ counts_in (leb 1 violations && not stops) (is_far read && not stops) (counted_of read stops) w.old }
+{
+    let far = overhead::is_far(read);
+    let more = second::counted(read, stops);
+    counts_at(w, (1 <= violations) & !stops, far & !stops, more);
 }

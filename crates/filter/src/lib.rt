@@ -6,14 +6,15 @@ ghost use Rattle.filter.specs.Filter.{up_of, add_of, filter_of};
 ghost use Rattle.filter.specs.Stat.{stat_of};
 
 // A filter of n and n: `run` counts the bits in a row, the last among them, that are not `on`.
-#[derive(Clone, Copy)]
+#[derive(Clone, Copy, Default)]
 pub struct Filter {
     pub on: bool,
     pub run: u32,
 }
 
 // Three in a row: the last value and how often in a row it was met; whether a value is accepted, and which.
-#[derive(Clone, Copy)]
+// `known` stands beside `accepted` and is no Option: by theorem `round_trip` each state that was read from bytes has the same bytes again.
+#[derive(Clone, Copy, Default)]
 pub struct Stat {
     pub value: u8,
     pub run: u32,
@@ -26,10 +27,7 @@ pub struct Stat {
 pub fn up(run: u32, n: u32) -> u32
     ensures { result ≡ up_of run n }
 {
-    if run < n {
-        return run + 1;
-    }
-    n
+    if run < n { run + 1 } else { n }
 }
 
 // So many more, and most at most.
@@ -37,12 +35,7 @@ pub fn up(run: u32, n: u32) -> u32
 pub fn add(run: u32, more: u32, most: u32) -> u32
     ensures { result ≡ add_of run more most }
 {
-    if run <= most {
-        if more <= most - run {
-            return run + more;
-        }
-    }
-    most
+    run.saturating_add(more).min(most)
 }
 
 // The filter after one more bit, where nothing is forgotten.
@@ -51,13 +44,14 @@ fn filter_met(f: Filter, n: u32, bit: bool) -> Filter
     ensures { result ≡ filter_of f n false bit }
 {
     if bit == f.on {
-        return Filter { on: f.on, run: 0 };
+        return Filter { run: 0, ..f };
     }
     let run = up(f.run, n);
     if run == n {
-        return Filter { on: bit, run: 0 };
+        Filter { on: bit, run: 0 }
+    } else {
+        Filter { run, ..f }
     }
-    Filter { on: f.on, run: run }
 }
 
 // The filter after one more bit; forgotten where `forget`, and its work done all the same.
@@ -66,10 +60,7 @@ pub fn filter_step(f: Filter, n: u32, forget: bool, bit: bool) -> Filter
     ensures { result ≡ filter_of f n forget bit }
 {
     let met = filter_met(f, n, bit);
-    if forget {
-        return Filter { on: false, run: 0 };
-    }
-    met
+    if forget { Filter::default() } else { met }
 }
 
 // The value after one more frame; forgotten where `forget`.
@@ -78,35 +69,14 @@ pub fn stat_step(s: Stat, forget: bool, value: u8) -> Stat
     ensures { result ≡ stat_of s forget value }
 {
     if forget {
-        return Stat {
-            value: 0,
-            run: 0,
-            known: false,
-            accepted: 0,
-        };
+        return Stat::default();
     }
-    let last = s.value;
-    if value == last {
-        let run = up(s.run, 3);
-        if run == 3 {
-            return Stat {
-                value: value,
-                run: run,
-                known: true,
-                accepted: value,
-            };
-        }
-        return Stat {
-            value: value,
-            run: run,
-            known: s.known,
-            accepted: s.accepted,
-        };
-    }
+    let run = if value == s.value { up(s.run, 3) } else { 1 };
+    let third = run == 3;
     Stat {
-        value: value,
-        run: 1,
-        known: s.known,
-        accepted: s.accepted,
+        value,
+        run,
+        known: third | s.known,
+        accepted: if third { value } else { s.accepted },
     }
 }

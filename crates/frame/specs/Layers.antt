@@ -22,9 +22,6 @@ use Rattle.settings.specs.declared.Settings.{Settings}
 use Rattle.frame.specs.declared.SectionState.{SectionState}
 use Rattle.frame.specs.declared.PathState.{PathState}
 use Rattle.frame.specs.declared.Layers.{Layers}
-use Rattle.frame.specs.declared.SectionFrame.{SectionFrame}
-use Rattle.frame.specs.declared.PathFrame.{PathFrame}
-use Rattle.frame.specs.declared.Advanced.{Advanced}
 
 -- the line after the frame; "a flags byte (value 1: line signal fail, TSF-P; value 2: OTUk-AIS; both may stand)"
 unfoldable pub line_of : Alignment → ℕ → ℕ → Line
@@ -101,20 +98,18 @@ standing_of s l flags = record {
   path = path_stands l.path s.path;
 }
 
+-- the layers after a frame, together with what stands
+pub record Advanced : Type 0 where
+  pub layers : Layers
+  pub standing : Standing
+
+abbrev pub advance_of : Settings → Layers → Overhead → ℕ → Advanced
+advance_of s l o flags = record { layers = layers_of s l o flags; standing = standing_of s (layers_of s l o flags) flags }
+
 -- "dDEG, decided at a mark: a second is bad if its near-end block count, after discard, is at least DEGThr. DEGM bad seconds in a
 -- row raise it, DEGM others clear it. SSF doesn't force it." (6.2.3.4, 6.2.3.5)
 abbrev pub degraded : Layer → Options → ℕ → Layer
 degraded l p near = with_deg l (filter_of l.deg p.degm false (leb p.thr near))
-
--- a state together with what stands in it
-abbrev pub section_frame : SectionState → Options → Bool → Multi → Field → SectionFrame
-section_frame s p ssf m f = record { state = section_of s p ssf m f; stands = section_stands (section_of s p ssf m f) p }
-
-abbrev pub path_frame : PathState → Options → Bool → Multi → Field → PathFrame
-path_frame s p ssf m f = record { state = path_of s ssf m f; stands = path_stands (path_of s ssf m f) p }
-
-abbrev pub advance_of : Settings → Layers → Overhead → ℕ → Advanced
-advance_of s l o flags = record { layers = layers_of s l o flags; standing = standing_of s (layers_of s l o flags) flags }
 
 abbrev pub fresh_layers : Layers
 fresh_layers = record {

@@ -7,12 +7,10 @@ use native.Mathlib.Omega.{arith}
 use lib.Dec.{eqb, ltb}
 use borrow.Author.Tests.{ltb-true, eq-eqb, ne_eqb, eqb-true}
 use Rattle.answer.proofs.Cond.{by_cond, cond_under}
-use Rattle.supervisor.specs.Supervisor.{fresh_of, step_refusal, step_of, next_second, mark_of}
+use Rattle.supervisor.specs.Supervisor.{Stepped, Marked, fresh_of, step_refusal, step_of, next_second, mark_of}
 use Rattle.history.specs.History.{Event, frame, mark, framed, event_of, after, refusal_of, Accepted, Call, does, reads, answer_of, handed_back, handed, accepted, Follows}
 use Rattle.history.specs.Ranges.{Ranged, Bytes, AlwaysRanged}
 use Rattle.supervisor.specs.declared.Supervisor.{Supervisor}
-use Rattle.supervisor.specs.declared.Stepped.{Stepped}
-use Rattle.supervisor.specs.declared.Marked.{Marked}
 use Rattle.history.proofs.Ranges.{step_ranged, mark_ranged, fresh_ranged}
 
 pub after_append : (s : Supervisor) (a b : List Event) → after s (a ++ b) ≡ after (after s a) b

@@ -13,14 +13,12 @@ use Rattle.signal.specs.Signal.{signal_of, stands_for, is_ais}
 use Rattle.causes.specs.Causes.{ssf_of, tim_acts, head_of, report_of, no_report}
 use Rattle.frame.specs.Layers.{line_of, section_of, section_stands, path_of, path_stands, layers_of, standing_of}
 use Rattle.second.specs.Second.{near_of, far_of, sum_of, counted_of, one_frame, one_under, blocks_of, count_of, discard_of, closed_of}
-use Rattle.supervisor.specs.Supervisor.{fresh_of, step_refusal, stands_after, frame_of, step_of, next_second, mark_of}
+use Rattle.supervisor.specs.Supervisor.{Stepped, Marked, fresh_of, step_refusal, stands_after, frame_of, step_of, next_second, mark_of}
 use Rattle.history.specs.History.{Event, frame, mark}
 use Rattle.causes.specs.declared.Report.{Report}
 use Rattle.settings.specs.declared.Options.{Options}
 use Rattle.settings.specs.declared.Settings.{Settings}
 use Rattle.supervisor.specs.declared.Supervisor.{Supervisor}
-use Rattle.supervisor.specs.declared.Stepped.{Stepped}
-use Rattle.supervisor.specs.declared.Marked.{Marked}
 
 -- a frame of these bytes, flags and counts
 abbrev sent : List ℕ → ℕ → ℕ → ℕ → Event

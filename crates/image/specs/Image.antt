@@ -10,6 +10,7 @@ use Rattle.alignment.specs.declared.Alignment.{Alignment}
 use Rattle.layer.specs.declared.Layer.{Layer}
 use Rattle.settings.specs.declared.Options.{Options}
 use Rattle.second.specs.declared.Second.{Second}
+use Rattle.second.specs.declared.Blocks.{Blocks}
 use Rattle.supervisor.specs.declared.Supervisor.{Supervisor}
 use Rattle.numbers.specs.declared.Head.{Head}
 use Rattle.numbers.specs.declared.State.{State}
@@ -37,6 +38,21 @@ abbrev pub line_pieces : Supervisor → List Piece
 line_pieces s = piece 32 (head_bytes (line_head s)) ∷ piece 32 (align_bytes s.layers.align) ∷ piece 48 (flat (counts_of s.second)) ∷ []
 
 -- The layers' records. The section has no STAT; the path has no dIAE and no dBIAE.
+
+-- the state of a layer that has none of them
+abbrev pub plain_state : Layer → Blocks → State
+plain_state l blocks = record {
+  known = l.known;
+  gathering = l.gathering;
+  equal = l.equal;
+  bdi = l.bdi;
+  iae = quiet;
+  biae = quiet;
+  stat = no_stat;
+  blocks = blocks;
+  iaeseen = false;
+  biaeseen = false;
+}
 
 abbrev pub section_held : Supervisor → Held
 section_held s =

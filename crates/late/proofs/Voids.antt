@@ -1,50 +1,32 @@
 -- Figures discarded in their places: one layer's five, one level after the other, and all of a second. Assumes nothing.
 use Prim.Native.Nat.{ℕ, ◌+◌, ◌*◌, ◌<◌, ◌≤◌}
 use mathlib.Core.Path.{◌≡◌, refl, sym, ap, ◌∙◌}
-use mathlib.Core.Bool.{cond, ◌||◌}
 use mathlib.Core.List.{List, [], ◌∷◌, ◌++◌, append_assoc, append-nil}
 use native.Mathlib.Numerals.{add-one}
 use native.Mathlib.Omega.{arith}
-use lib.ListN.{length, get_or, take, drop, set, length-append, length-drop}
-use lib.Seq.{take-suc, take-append-add, drop-append-add, drop_at, drop-drop, get_or-take, get_or-drop, length-take-le, drop-length}
+use lib.ListN.{length, get_or, take, drop, length-append, length-drop}
+use lib.Seq.{take-suc, take-append-add, drop-append-add, drop_at, drop-drop, length-take-le, drop-length}
+use borrow.Rule.Slice.PartMut.{mid_of, put_mid}
 use Rattle.answer.specs.Over.{over}
-use Rattle.answer.proofs.Overs.{over_over, over_length, set_over}
-use Rattle.words.proofs.Words.{put4}
+use Rattle.answer.proofs.Overs.{over_over}
 use Rattle.late.specs.Late.{void_five, void_levels, voided}
 use Rattle.late.specs.declared.Erred.{Erred}
 
--- a group of five within figures
-pub group_at_lem : (v : List ℕ) (at i : ℕ) → i < 5 → get_or (take 5 (drop at v)) i 0 ≡ get_or v (at + i) 0
-group_at_lem v at i h = get_or-take 5 (drop at v) i 0 h ∙ get_or-drop at v i 0
-
--- five numbers written one by one
-put5 : (d : List ℕ) (n a b c e f : ℕ) → n + 5 ≤ length d
-    → set (set (set (set (set d n a) (n + 1) b) (n + 2) c) (n + 3) e) (n + 4) f ≡ over d n (a ∷ b ∷ c ∷ e ∷ f ∷ [])
-put5 d n a b c e f h =
-    let v : List ℕ = a ∷ b ∷ c ∷ e ∷ [] in
-    let x = put4 d n a b c e (omega arith) in
-    let l = over_length d n v (omega arith) in
-    rw x (set_over (over d n v) (n + 4) f (omega arith) ∙ over_over d n (n + 4) v (f ∷ []) (omega arith) refl)
-
--- those of a layer, discarded
-pub void_put : (v : List ℕ) (at : ℕ) (e : Erred) (a b c d f : ℕ) → at + 5 ≤ length v
-    → a ≡ cond e.iae 0 (get_or v at 0) → b ≡ cond (e.iae || e.biae) 0 (get_or v (at + 1) 0)
-    → c ≡ cond e.iae 0 (get_or v (at + 2) 0) → d ≡ cond (e.iae || e.biae) 0 (get_or v (at + 3) 0)
-    → f ≡ cond (e.iae || e.biae) 0 (get_or v (at + 4) 0)
-    → set (set (set (set (set v at a) (at + 1) b) (at + 2) c) (at + 3) d) (at + 4) f ≡ over v at (void_five e (take 5 (drop at v)))
-unfolding void_five
-void_put v at e a b c d f h ea eb ec ed ef =
-    let z : at + 0 ≡ at = omega arith in
-    let g = rw z at (group_at_lem v at 0 (omega arith)) in
-    let g1 = group_at_lem v at 1 (omega arith) in
-    let g2 = group_at_lem v at 2 (omega arith) in
-    let g3 = group_at_lem v at 3 (omega arith) in
-    let g4 = group_at_lem v at 4 (omega arith) in
-    rw (g, g1, g2, g3, g4, ← ea, ← eb, ← ec, ← ed, ← ef) (put5 v at a b c d f h)
-
-five_long : (e : Erred) (v : List ℕ) → length (void_five e v) ≡ 5
+pub five_long : (e : Erred) (v : List ℕ) → length (void_five e v) ≡ 5
 unfolding void_five
 five_long e v = refl
+
+-- five figures discarded within others
+pub put_over : (v five : List ℕ) (at k : ℕ) (e : Erred) → k ≡ 5 → at + 5 ≤ length v → five ≡ void_five e (mid_of at k v)
+    → put_mid at k v five ≡ over v at (void_five e (take 5 (drop at v)))
+unfolding over
+put_over v five at k e m room h =
+    let f : five ≡ void_five e (take 5 (drop at v)) = rw m at h in
+    rw (m, f, five_long e (take 5 (drop at v)), drop-drop 5 at v) (sym (append_assoc (take at v) (void_five e (take 5 (drop at v))) (drop (at + 5) v)))
+
+-- what is written within a list leaves its length
+pub put_long : (v five : List ℕ) (at k : ℕ) {n : ℕ} → length v ≡ n → length five ≡ k → at + k ≤ n → length (put_mid at k v five) ≡ n
+put_long v five at k e f h = simp (length-append, length-drop, length-take-le at v (omega arith)) (omega arith)
 
 levels_long : (es : List Erred) (v : List ℕ) → length (void_levels es v) ≡ 5 * length es
 unfolding void_levels

@@ -1,17 +1,30 @@
 -- The pending second (document 02, K3): a mark reports the second that was closed before it, discarded by pIAE and pBIAE of its own and of the second that the
 -- mark closes, and makes that one pending. Assumes nothing.
-use Rattle.std.specs.Prelude.{ℕ, ◌≡◌, false, cond, ◌||◌, List, [], ◌∷◌, ◌++◌, map, eqb, ltb, get_or, take, drop, replicate}
+use Rattle.std.specs.Prelude.{ℕ, ◌≡◌, Bool, false, cond, ◌||◌, List, [], ◌∷◌, ◌++◌, map, eqb, ltb, get_or, take, drop, replicate, Option, Some, None}
 use Rattle.answer.specs.Bits.{flag}
 use Rattle.second.specs.Second.{discard_of}
 use Rattle.second.specs.declared.Blocks.{Blocks}
-use Rattle.tandem.specs.Tandem.{marked_of}
+use Rattle.tandem.specs.Tandem.{TandemMarked, marked_of}
 use Rattle.tandem.specs.declared.Level.{Level}
 use Rattle.tandem.specs.declared.Tandem.{Tandem}
-use Rattle.tandem.specs.declared.TandemMarked.{TandemMarked}
 use Rattle.late.specs.declared.Erred.{Erred}
 use Rattle.late.specs.declared.Late.{Late}
-use Rattle.late.specs.declared.LateMarked.{LateMarked}
-use Rattle.late.specs.declared.PendingSecond.{PendingSecond}
+
+-- `refusal` as in `TandemMarked`; where a second is `told`, its figures
+pub record LateMarked : Type 0 where
+  pub refusal : ℕ
+  pub told : Bool
+  pub figures : List ℕ
+  pub late : Late
+
+-- where a second is pending, it is `told`, and its figures
+pub record PendingSecond : Type 0 where
+  pub told : Bool
+  pub figures : List ℕ
+
+-- the figures of a second that is told; of one that is not none are answered
+abbrev pub if_told : Bool → List ℕ → Option (List ℕ)
+if_told told figures = cond told (Some figures) None
 
 -- no second is pending
 abbrev pub fresh_late : Tandem → Late

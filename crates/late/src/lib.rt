@@ -1,14 +1,15 @@
-// The supervisor with its pending second, by value: a mark reports the second closed before it, discarded also by what stood in the one that it closes.
+// The supervisor with its pending second: a mark reports the second closed before it, discarded also by what stood in the one that it closes.
 #![tactic(auto)]
 
-ghost use Rattle.std.specs.Prelude.{◌≡◌, cond, ◌∷◌, map, ◌+◌, ◌≤◌, length, take, drop};
-ghost use Rattle.answer.specs.Over.{over};
-ghost use Rattle.late.specs.Late.{fresh_late, level_erred, void_five, voided, pending_of, late_marked};
+ghost use Rattle.std.specs.Prelude.{◌≡◌, cond, ltb, ◌∷◌, map, length, IfOk, OnOk, OnErr};
+ghost use Rattle.answer.specs.Refusal.{said};
+ghost use Rattle.late.specs.Late.{fresh_late, section_erred, level_erred, void_five, voided, pending_of, late_marked, next_report, if_told};
 
+use answer::Refusal;
 use tandem::{Level, Tandem};
 
 // The supervisor with levels, and the figures of the second that was closed last, behind its number: frames, ten heads, the section's five, the path's five,
-// five of each level.
+// five of each level. No Option: before the first mark too these are the 204 bytes that C lends, which come back as they were read (round trip of `slots`).
 #[derive(Clone, Copy)]
 pub struct Late {
     pub tandem: Tandem,
@@ -16,26 +17,10 @@ pub struct Late {
 }
 
 // pIAE and pBIAE of a layer's second: whether dIAE and dBIAE stood in some frame of it.
-#[derive(Clone, Copy)]
+#[derive(Clone, Copy, Debug, Default, PartialEq, Eq)]
 pub struct Erred {
     pub iae: bool,
     pub biae: bool,
-}
-
-// `refusal` as in `TandemMarked`; where a second is `told`, its figures.
-#[derive(Clone, Copy)]
-pub struct LateMarked {
-    pub refusal: u8,
-    pub told: bool,
-    pub figures: [u32; 52],
-    pub late: Late,
-}
-
-// Where a second is pending, it is `told`, and its figures.
-#[derive(Clone, Copy)]
-pub struct PendingSecond {
-    pub told: bool,
-    pub figures: [u32; 52],
 }
 
 // No second is pending.
@@ -52,69 +37,70 @@ pub fn fresh_late(t: Tandem) -> Late
 fn kept(x: u32, gone: bool) -> u32
     ensures { result ≡ cond gone 0 x }
 {
-    if gone {
-        return 0;
-    }
-    x
+    if gone { 0 } else { x }
 }
 
-// A layer's five figures from a place on, discarded.
-#[tactic(auto, using(crate::proofs::Voids::void_put))]
-fn void_at(v: &mut [u32], at: usize, e: Erred)
-    requires { at + 5 ≤ length v.old }
-    ensures { v.new ≡ over v.old at (void_five e (take 5 (drop at v.old))) }
+// A layer's five figures, discarded.
+#[tactic(auto, unfolding(crate::specs::Late::void_five))]
+fn void_five(five: &mut [u32], e: Erred)
+    requires { length five.old ≡ 5 }
+    ensures { five.new ≡ void_five e five.old }
 {
-    let near = kept(v[at], e.iae);
-    let far = kept(v[at + 1], e.iae | e.biae);
-    let neards = kept(v[at + 2], e.iae);
-    let fards = kept(v[at + 3], e.iae | e.biae);
-    let sum = kept(v[at + 4], e.iae | e.biae);
-    v[at] = near;
-    v[at + 1] = far;
-    v[at + 2] = neards;
-    v[at + 3] = fards;
-    v[at + 4] = sum;
+    if let [near, far, neards, fards, sum] = *five {
+        five.copy_from_slice(&[
+            kept(near, e.iae),
+            kept(far, e.iae | e.biae),
+            kept(neards, e.iae),
+            kept(fards, e.iae | e.biae),
+            kept(sum, e.iae | e.biae),
+        ]);
+    }
 }
 
 // The figures of a second, the section's and each level's discarded.
-#[tactic(auto, using(answer::proofs::Overs::over_nil), unfolding(crate::specs::Late::void_levels))]
-pub fn void(v: [u32; 51], section: Erred, levels: [Erred; 6]) -> [u32; 51]
-    ensures { result ≡ voided section levels v }
+#[tactic(auto, unfolding(crate::specs::Late::void_levels))]
+pub fn void(v: &mut [u32; 51], section: Erred, levels: &[Erred; 6])
+    ensures { v.new ≡ voided section levels.now v.old }
 {
-    let mut n = v;
-    void_at(&mut n, 11, section);
-    for i in 0..6 {
-        let e = levels[i];
-        void_at(&mut n, 21 + 5 * i, e);
+    // By place: of what `chunks_exact_mut` and `as_chunks_mut` lend, the library says only the length afterwards.
+    void_five(&mut v[11..16], section);
+    for (i, &level) in levels.iter().enumerate() {
+        void_five(&mut v[21 + 5 * i..26 + 5 * i], level);
     }
-    n
 }
 
-// A number, and figures behind it.
-fn numbered(number: u32, v: [u32; 51]) -> [u32; 52]
-    ensures { result ≡ number ∷ v }
+// A second's number, and its figures behind it.
+fn numbered(number: u32, v: &[u32; 51]) -> [u32; 52]
+    ensures { result ≡ number ∷ v.now }
 {
     let mut out = [number; 52];
-    for i in 0..51 {
-        out[i + 1] = v[i];
-    }
+    out[1..].copy_from_slice(v);
     out
 }
 
-// The figures behind a number.
-fn behind(figures: [u32; 52]) -> [u32; 51]
-    ensures { result ≡ drop 1 figures }
+// The same where a second is closed, otherwise nothing.
+fn told(number: u32, v: &[u32; 51]) -> Option<[u32; 52]>
+    ensures { result ≡ if_told (ltb 0 number) (number ∷ v.now) }
 {
-    let mut out = [0u32; 51];
-    for i in 0..51 {
-        out[i] = figures[i + 1];
+    if number == 0 {
+        return None;
     }
-    out
+    Some(numbered(number, v))
 }
 
-// pIAE and pBIAE of a level's open second.
-fn level_erred(l: Level) -> Erred
-    ensures { result ≡ level_erred l }
+// pIAE and pBIAE of the section's open second.
+fn section_erred(t: &Tandem) -> Erred
+    ensures { result ≡ section_erred t.now }
+{
+    Erred {
+        iae: t.base.second.iae,
+        biae: t.base.second.biae,
+    }
+}
+
+// Those of a level's open second.
+fn level_erred(l: &Level) -> Erred
+    ensures { result ≡ level_erred l.now }
 {
     Erred {
         iae: l.second.iae,
@@ -123,70 +109,54 @@ fn level_erred(l: Level) -> Erred
 }
 
 // Those of the six levels.
-fn levels_erred(ls: [Level; 6]) -> [Erred; 6]
-    ensures { result ≡ map level_erred ls }
+fn levels_erred(levels: &[Level; 6]) -> [Erred; 6]
+    ensures { result ≡ map level_erred levels.now }
 {
-    let none = Erred {
-        iae: false,
-        biae: false,
-    };
-    let mut out = [none; 6];
-    for i in 0..6 {
-        let l = ls[i];
-        let e = level_erred(l);
-        out[i] = e;
+    // A `for`: `levels.each_ref().map(level_erred)` was tried, and what its calls answer did not close.
+    let mut erred = [Erred::default(); 6];
+    for (i, level) in levels.iter().enumerate() {
+        erred[i] = level_erred(level);
     }
-    out
+    erred
 }
 
-// The pending second.
-#[tactic(auto, unfolding(crate::specs::Late::pending_of))]
-pub fn pending(s: Late) -> PendingSecond
-    ensures { result ≡ pending_of s }
-{
-    let held = s.pending;
-    let seconds = s.tandem.base.seconds;
-    let figures = numbered(seconds, held);
-    PendingSecond {
-        told: 0 < seconds,
-        figures: figures,
+impl Late {
+    // The pending second, where there is one.
+    #[tactic(auto, unfolding(crate::specs::Late::pending_of))]
+    pub fn pending(&self) -> Option<[u32; 52]>
+        ensures { result ≡ if_told (pending_of self.now).told (pending_of self.now).figures }
+    {
+        told(self.tandem.base.seconds, &self.pending)
     }
-}
 
-// A mark: the pending second is reported, and the one just closed is pending.
-#[tactic(auto, unfolding(crate::specs::Late::late_marked))]
-pub fn mark(s: Late) -> LateMarked
-    ensures { result ≡ late_marked s }
-{
-    let t = s.tandem;
-    let a = tandem::mark(t);
-    if a.refusal == 0 {
-        let held = s.pending;
-        let ls = t.levels;
-        let section = Erred {
-            iae: t.base.second.iae,
-            biae: t.base.second.biae,
-        };
-        let levels = levels_erred(ls);
-        let told = void(held, section, levels);
-        let figures = numbered(t.base.seconds, told);
-        let closed = a.figures;
-        let next = a.tandem;
-        let pending = behind(closed);
-        return LateMarked {
-            refusal: 0,
-            told: 0 < t.base.seconds,
-            figures: figures,
-            late: Late {
-                tandem: next,
-                pending: pending,
-            },
-        };
+    // What the next mark gives: the pending second, discarded by the open one too.
+    pub fn next_report(&self) -> [u32; 52]
+        ensures { result ≡ next_report self.now }
+    {
+        let mut pending = self.pending;
+        void(
+            &mut pending,
+            section_erred(&self.tandem),
+            &levels_erred(&self.tandem.levels),
+        );
+        numbered(self.tandem.base.seconds, &pending)
     }
-    LateMarked {
-        refusal: a.refusal,
-        told: false,
-        figures: [0; 52],
-        late: s,
+
+    // A mark: the pending second is reported, and the one just closed is pending.
+    #[tactic(auto, unfolding(crate::specs::Late::late_marked))]
+    pub fn mark(&mut self) -> Result<Option<[u32; 52]>, Refusal>
+        ensures refusal { said result ≡ (late_marked self.old).refusal }
+        ensures figures { IfOk result (λ f. f ≡ if_told (late_marked self.old).told (late_marked self.old).figures) }
+        ensures ok { OnOk result (self.new ≡ (late_marked self.old).late) }
+        ensures err { OnErr result (self.new ≡ self.old) }
+    {
+        let number = self.tandem.base.seconds;
+        let section = section_erred(&self.tandem);
+        let levels = levels_erred(&self.tandem.levels);
+        let closed = self.tandem.mark()?;
+        void(&mut self.pending, section, &levels);
+        let reported = told(number, &self.pending);
+        self.pending.copy_from_slice(&closed[1..]);
+        Ok(reported)
     }
 }

@@ -73,6 +73,14 @@ tim_of l mode names =
     || ((eqb mode 2 || eqb mode 3) && not (compared_of l.accepted names).dapi))
     false
 
+-- and of a trace by itself
+abbrev pub tim_in : Bool → List ℕ → ℕ → List ℕ → Bool
+tim_in known accepted mode names =
+    cond known
+    (((eqb mode 1 || eqb mode 3) && not (compared_of accepted names).sapi)
+    || ((eqb mode 2 || eqb mode 3) && not (compared_of accepted names).dapi))
+    false
+
 -- nothing accepted, nothing gathered, no defects
 abbrev pub fresh_layer : Layer
 fresh_layer = record {

@@ -1,3 +1,4 @@
+pub mod Answered
 pub mod Clause
 pub mod During
 pub mod Refuted

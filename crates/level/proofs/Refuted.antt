@@ -21,31 +21,31 @@ use Rattle.level.specs.declared.Status.TheVariants.{Clear, Ltc, Iae, Ais}
 use Rattle.level.specs.declared.Raises.{Raises}
 use Rattle.level.specs.declared.LevelState.{LevelState}
 use Rattle.level.specs.declared.LevelStands.{LevelStands}
-use Rattle.level.specs.declared.LevelFrame.{LevelFrame}
 use Rattle.level.specs.declared.LevelActions.{LevelActions}
 use Rattle.level.specs.declared.LevelCauses.{LevelCauses}
 use Rattle.level.specs.declared.LevelSecond.{LevelSecond}
+use Rattle.level.proofs.Answered.{next, stood}
 use Rattle.level.proofs.During.{each_frame}
 use Rattle.level.proofs.status_for.Kinds as status_for_kinds
 use Rattle.level.proofs.status_for.Reads as status_for_reads
 use Rattle.level.proofs.raises_of.Kinds as raises_of_kinds
 use Rattle.level.proofs.raises_of.Reads as raises_of_reads
-use Rattle.level.proofs.level_stands.Kinds as level_stands_kinds
-use Rattle.level.proofs.level_stands.Reads as level_stands_reads
-use Rattle.level.proofs.level_step.Kinds as level_step_kinds
-use Rattle.level.proofs.level_step.Reads as level_step_reads
+use Rattle.level.proofs.LevelState.stands.Kinds as level_stands_kinds
+use Rattle.level.proofs.LevelState.stands.Reads as level_stands_reads
+use Rattle.level.proofs.LevelState.step.Kinds as level_step_kinds
+use Rattle.level.proofs.LevelState.step.Reads as level_step_reads
 use Rattle.level.proofs.level_actions.Kinds as level_actions_kinds
 use Rattle.level.proofs.level_actions.Reads as level_actions_reads
 use Rattle.level.proofs.level_causes.Kinds as level_causes_kinds
 use Rattle.level.proofs.level_causes.Reads as level_causes_reads
 use Rattle.level.proofs.level_shows.Kinds as level_shows_kinds
 use Rattle.level.proofs.level_shows.Reads as level_shows_reads
-use Rattle.level.proofs.level_count.Kinds as level_count_kinds
-use Rattle.level.proofs.level_count.Reads as level_count_reads
+use Rattle.level.proofs.LevelSecond.count.Kinds as level_count_kinds
+use Rattle.level.proofs.LevelSecond.count.Reads as level_count_reads
 use Rattle.level.proofs.level_closed.Kinds as level_closed_kinds
 use Rattle.level.proofs.level_closed.Reads as level_closed_reads
-use Rattle.level.proofs.level_mark.Kinds as level_mark_kinds
-use Rattle.level.proofs.level_mark.Reads as level_mark_reads
+use Rattle.level.proofs.LevelState.mark.Kinds as level_mark_kinds
+use Rattle.level.proofs.LevelState.mark.Reads as level_mark_reads
 use Rattle.level.proofs.fresh_level.Kinds as fresh_level_kinds
 use Rattle.level.proofs.fresh_level.Reads as fresh_level_reads
 use Rattle.level.proofs.fresh_level_second.Kinds as fresh_level_second_kinds
@@ -72,47 +72,46 @@ module _ (κs : Lfts 0) (a : Dens κs raises_of_kinds.ps) (x : Raises)
   iae_raises_nothing iae w = let h : true ≡ false = simp (e, iae) at w in true≢false h
 
 -- level_stands
-module _ (κs : Lfts 0) (a : Dens κs level_stands_kinds.ps) (x : LevelStands)
-    (s : AtExit (ended_of 0 level_stands_kinds.ps level_stands_kinds.r) κs) (e : level_stands_reads.Post κs a x s) where
+module _ (κs : Lfts 2) (a : Dens κs level_stands_kinds.ps) (x : LevelStands)
+    (s : AtExit (ended_of 2 level_stands_kinds.ps level_stands_kinds.r) κs) (e : level_stands_reads.Post κs a x s) where
   -- dIAE does not stand where dTIM does
   pub iae_through_tim : x.tim ≡ true → x.iae ≡ true → ⊥
   unfolding stands_by
   iae_through_tim tim iae =
-      let h : tim_of a.0.layer a.1.0.mode a.1.0.names ≡ true = ap (λ (d : LevelStands). d.tim) (sym e) ∙ tim in
-      true≢false (sym iae ∙ ap (λ (d : LevelStands). d.iae) e ∙ rw h (and-false (raises_iae (status_for a.0.stat))))
+      let h : tim_of a.0.now.layer a.1.0.now.mode a.1.0.now.names ≡ true = ap (λ (d : LevelStands). d.tim) (sym e) ∙ tim in
+      true≢false (sym iae ∙ ap (λ (d : LevelStands). d.iae) e ∙ rw h (and-false (raises_iae (status_for a.0.now.stat))))
 
 -- level_step
-module _ (κs : Lfts 0) (a : Dens κs level_step_kinds.ps) (x : LevelFrame)
-    (s : AtExit (ended_of 0 level_step_kinds.ps level_step_kinds.r) κs) (e : level_step_reads.Post κs a x s) where
+module _ (κs : Lfts 4) (a : Dens κs level_step_kinds.ps) (x : LevelStands)
+    (s : AtExit (ended_of 4 level_step_kinds.ps level_step_kinds.r) κs) (e : level_step_reads.Post κs a x s) where
   -- the second frame of 000 raises no dLTC
-  pub ltc_at_two : a.0.stat ≡ record { value = 0; run = 1; known = false; accepted = 0 } → a.1.1.0 ≡ false → a.1.1.1.1.0.stat ≡ 0
-      → x.stands.status ≡ Ltc → ⊥
+  pub ltc_at_two : a.0.now.stat ≡ record { value = 0; run = 1; known = false; accepted = 0 } → a.1.1.0 ≡ false → a.1.1.1.1.0.now.stat ≡ 0
+      → x.status ≡ Ltc → ⊥
   unfolding level_of stands_by status_for stat_of in_row up_of
-  ltc_at_two one ssf zero ltc = let h : Clear ≡ Ltc = simp (e, one, ssf, zero) at ltc in false≢true (ap raises_ltc h)
+  ltc_at_two one ssf zero ltc = let h : Clear ≡ Ltc = simp ((stood κs a x s e), one, ssf, zero) at ltc in false≢true (ap raises_ltc h)
 
   -- dTIM does not forget STAT: outside SSF it is kept
-  pub stat_forgotten : a.0.stat.known ≡ true → a.1.1.0 ≡ false → x.state.stat.known ≡ false → ⊥
+  pub stat_forgotten : a.0.now.stat.known ≡ true → a.1.1.0 ≡ false → s.0.now.stat.known ≡ false → ⊥
   unfolding level_of stat_of
   stat_forgotten known ssf gone =
-      let third = eqb (in_row a.0.stat a.1.1.1.1.0.stat) 3 in
-      let h : (third || true) ≡ false = simp (e, known, ssf) at gone in
+      let third = eqb (in_row a.0.now.stat a.1.1.1.1.0.now.stat) 3 in
+      let h : (third || true) ≡ false = simp (next κs a x s e, known, ssf) at gone in
       true≢false (sym (or-true third) ∙ h)
 
   -- dBIAE is false during dAIS
-  pub biae_through_ais : x.stands.status ≡ Ais → x.stands.biae ≡ true → ⊥
+  pub biae_through_ais : x.status ≡ Ais → x.biae ≡ true → ⊥
   biae_through_ais ais biae =
-      let d = (level_frame a.0 a.1.0 a.1.1.0 a.1.1.1.0 a.1.1.1.1.0).stands in
-      let h : dAIS d ≡ true = ap (λ (y : LevelFrame). dAIS y.stands) (sym e) ∙ ap raises_ais ais in
-      let all = (each_frame a.0 a.1.0 a.1.1.0 a.1.1.1.0 a.1.1.1.1.0).in_ais h in
-      true≢false (sym biae ∙ ap (λ (y : LevelFrame). y.stands.biae) e ∙ all.1.1.1.1.1.1.0)
+      let h : dAIS (level_frame a.0.now a.1.0.now a.1.1.0 a.1.1.1.0.now a.1.1.1.1.0.now).stands ≡ true = ap (λ (d : LevelStands). dAIS d) (sym (stood κs a x s e)) ∙ ap raises_ais ais in
+      let all = (each_frame a.0.now a.1.0.now a.1.1.0 a.1.1.1.0.now a.1.1.1.1.0.now).in_ais h in
+      true≢false (sym biae ∙ ap (λ (d : LevelStands). d.biae) (stood κs a x s e) ∙ all.1.1.1.1.1.1.0)
 
   -- dLTC forgets nothing: dBDI stays
-  pub ltc_forgets : a.1.1.0 ≡ false → x.stands.status ≡ Ltc → a.0.layer.bdi.on ≡ true → a.1.1.1.1.0.bdi ≡ true → x.stands.bdi ≡ false → ⊥
+  pub ltc_forgets : a.1.1.0 ≡ false → x.status ≡ Ltc → a.0.now.layer.bdi.on ≡ true → a.1.1.1.1.0.now.bdi ≡ true → x.bdi ≡ false → ⊥
   unfolding level_of stands_by layer_of filter_of
   ltc_forgets ssf ltc on bdi off =
-      let h : status_for (stat_of a.0.stat a.1.1.0 a.1.1.1.1.0.stat) ≡ Ltc = ap (λ (y : LevelFrame). y.stands.status) (sym e) ∙ ltc in
-      let g : status_for (stat_of a.0.stat false a.1.1.1.1.0.stat) ≡ Ltc = rw ssf at h in
-      let z : true ≡ false = simp (e, ssf, g, on, bdi) at off in
+      let h : status_for (stat_of a.0.now.stat a.1.1.0 a.1.1.1.1.0.now.stat) ≡ Ltc = ap (λ (d : LevelStands). d.status) (sym (stood κs a x s e)) ∙ ltc in
+      let g : status_for (stat_of a.0.now.stat false a.1.1.1.1.0.now.stat) ≡ Ltc = rw ssf at h in
+      let z : true ≡ false = simp ((stood κs a x s e), ssf, g, on, bdi) at off in
       true≢false z
 
 -- level_actions
@@ -150,15 +149,15 @@ module _ (κs : Lfts 0) (a : Dens κs level_shows_kinds.ps) (x : Shows)
   iae_stops ssf iae w = let h : false ≡ true = simp (e, ssf, iae) at w in false≢true h
 
 -- level_count
-module _ (κs : Lfts 0) (a : Dens κs level_count_kinds.ps) (x : LevelSecond)
-    (s : AtExit (ended_of 0 level_count_kinds.ps level_count_kinds.r) κs) (e : level_count_reads.Post κs a x s) where
+module _ (κs : Lfts 2) (a : Dens κs level_count_kinds.ps)
+    (s : AtExit (ended_of 2 level_count_kinds.ps level_count_kinds.r) κs) (e : level_count_reads.Post κs a tt s) where
   -- no block is counted during dLTC
-  pub near_under_ltc : a.0.blocks.near.0 ≡ 0 → a.1.0.ssf ≡ false → a.1.0.status ≡ Ltc → a.1.1.1.0 ≡ 1 → x.blocks.near.0 ≡ 1 → ⊥
+  pub near_under_ltc : a.0.now.blocks.near.0 ≡ 0 → a.1.0.now.ssf ≡ false → a.1.0.now.status ≡ Ltc → a.1.1.1.0 ≡ 1 → s.0.now.blocks.near.0 ≡ 1 → ⊥
   unfolding level_count blocks_of near_of
   near_under_ltc zero ssf ltc one near = let h : ◌≡◌ {A = ℕ} 0 1 = simp (e, ssf, ltc, one, zero) at near in omega arith
 
   -- a dIAE that stood once is not taken back
-  pub iae_taken_back : a.0.iae ≡ true → x.iae ≡ false → ⊥
+  pub iae_taken_back : a.0.now.iae ≡ true → s.0.now.iae ≡ false → ⊥
   unfolding level_count
   iae_taken_back stood w = let h : true ≡ false = simp (e, stood) at w in true≢false h
 
@@ -176,18 +175,18 @@ module _ (κs : Lfts 0) (a : Dens κs level_closed_kinds.ps) (x : Blocks)
   biae_takes_near one iae biae near = let h : ◌≡◌ {A = ℕ} 1 0 = simp (e, iae, one) at near in omega arith
 
 -- level_mark, where DEGM is 2, DEGThr 1, and the second had one block
-module _ (κs : Lfts 0) (a : Dens κs level_mark_kinds.ps) (x : LevelState)
-    (s : AtExit (ended_of 0 level_mark_kinds.ps level_mark_kinds.r) κs) (e : level_mark_reads.Post κs a x s) where
+module _ (κs : Lfts 3) (a : Dens κs level_mark_kinds.ps)
+    (s : AtExit (ended_of 3 level_mark_kinds.ps level_mark_kinds.r) κs) (e : level_mark_reads.Post κs a tt s) where
   abbrev Given : Type 0
-  Given = (a.0.layer.deg ≡ record { on = false; run = 0 }) × (a.1.0.degm ≡ 2) × (a.1.0.thr ≡ 1) × (a.1.1.0.blocks.near.0 ≡ 1)
+  Given = (a.0.now.layer.deg ≡ record { on = false; run = 0 }) × (a.1.0.now.degm ≡ 2) × (a.1.0.now.thr ≡ 1) × (a.1.1.0.now.blocks.near.0 ≡ 1)
 
   -- dDEG is decided after the discard
-  pub bad_before_discard : Given → a.1.1.0.iae ≡ true → x.layer.deg.run ≡ 1 → ⊥
+  pub bad_before_discard : Given → a.1.1.0.now.iae ≡ true → s.0.now.layer.deg.run ≡ 1 → ⊥
   unfolding level_marked discard_of filter_of
   bad_before_discard g iae w = let h : ◌≡◌ {A = ℕ} 0 1 = simp (e, g.0, g.1, g.2, iae) at w in omega arith
 
   -- "at least DEGThr" is bad
-  pub thr_not_bad : Given → a.1.1.0.iae ≡ false → x.layer.deg.run ≡ 0 → ⊥
+  pub thr_not_bad : Given → a.1.1.0.now.iae ≡ false → s.0.now.layer.deg.run ≡ 0 → ⊥
   unfolding level_marked discard_of filter_of up_of
   thr_not_bad g iae w = let h : ◌≡◌ {A = ℕ} 1 0 = simp (e, g.0, g.1, g.2, iae, g.3) at w in omega arith
 

@@ -18,7 +18,6 @@ use Rattle.second.specs.Second.{blocks_of, discard_of, no_blocks}
 use Rattle.level.specs.Status.{status_for, raises_ltc, raises_iae, raises_lck, raises_oci, raises_ais}
 use Rattle.level.specs.declared.LevelState.{LevelState}
 use Rattle.level.specs.declared.LevelStands.{LevelStands}
-use Rattle.level.specs.declared.LevelFrame.{LevelFrame}
 use Rattle.level.specs.declared.LevelActions.{LevelActions}
 use Rattle.level.specs.declared.LevelCauses.{LevelCauses}
 use Rattle.level.specs.declared.LevelSecond.{LevelSecond}
@@ -53,6 +52,10 @@ abbrev pub level_stands : LevelState → Options → Bool → LevelStands
 level_stands s p ssf = stands_by s ssf (tim_of s.layer p.mode p.names) p.disabled
 
 -- the level after a frame, with what stands there
+pub record LevelFrame : Type 0 where
+  pub state : LevelState
+  pub stands : LevelStands
+
 abbrev pub level_frame : LevelState → Options → Bool → Multi → Field → LevelFrame
 level_frame s p ssf m f = record { state = level_of s p ssf m f; stands = level_stands (level_of s p ssf m f) p ssf }
 

@@ -4,18 +4,19 @@
 
 ghost use Rattle.std.specs.Prelude.{◌≡◌};
 ghost use Rattle.level.specs.Status.{status_of, status_for, raises_of};
-ghost use Rattle.level.specs.Level.{stands_by, level_stands, level_frame, level_down, level_actions, level_causes, level_shows, level_count, level_closed, level_marked, fresh_level, fresh_level_second};
+ghost use Rattle.level.specs.Level.{stands_by, level_stands, level_of, level_down, level_actions, level_causes, level_shows, level_count, level_closed, level_marked, fresh_level, fresh_level_second};
 
 use alignment::Multi;
 use filter::{Filter, Stat};
 use layer::Layer;
 use overhead::Field;
-use second::{Blocks, Far, Near, Shows, Sum};
+use second::{Blocks, Shows};
 use settings::Options;
 
 // What an accepted STAT stands for.
-#[derive(Clone, Copy)]
+#[derive(Clone, Copy, Debug, Default, PartialEq, Eq)]
 pub enum Status {
+    #[default]
     Clear,
     Ltc,
     Iae,
@@ -43,7 +44,7 @@ pub struct LevelState {
 }
 
 // The defects of a level, with its SSF, and whether TIMActDis keeps dTIM from acting.
-#[derive(Clone, Copy)]
+#[derive(Clone, Copy, Default)]
 pub struct LevelStands {
     pub ssf: bool,
     pub status: Status,
@@ -53,13 +54,6 @@ pub struct LevelStands {
     pub iae: bool,
     pub biae: bool,
     pub deg: bool,
-}
-
-// The level after a frame, with what stands there.
-#[derive(Clone, Copy)]
-pub struct LevelFrame {
-    pub state: LevelState,
-    pub stands: LevelStands,
 }
 
 // aTSF and aTSD.
@@ -82,14 +76,14 @@ pub struct LevelCauses {
 }
 
 // The open second: its five values, and whether dIAE and dBIAE stood in some frame.
-#[derive(Clone, Copy)]
+#[derive(Clone, Copy, Default)]
 pub struct LevelSecond {
     pub blocks: Blocks,
     pub iae: bool,
     pub biae: bool,
 }
 
-// The status of a three-bit STAT number.
+// The status of a three-bit STAT number. No `From<u8>`: that would name a status of any byte to every crate, for this one caller.
 #[tactic(auto, unfolding(crate::specs::Status::status_of))]
 fn status_of(stat: u8) -> Status
     ensures { result ≡ status_of stat }
@@ -119,109 +113,63 @@ pub fn status_for(s: Stat) -> Status
 pub fn raises_of(s: Status) -> Raises
     ensures { result ≡ raises_of s }
 {
-    match s {
-        Status::Clear => Raises {
-            ltc: false,
-            iae: false,
-            lck: false,
-            oci: false,
-            ais: false,
-        },
-        Status::Ltc => Raises {
-            ltc: true,
-            iae: false,
-            lck: false,
-            oci: false,
-            ais: false,
-        },
-        Status::Iae => Raises {
-            ltc: false,
-            iae: true,
-            lck: false,
-            oci: false,
-            ais: false,
-        },
-        Status::Lck => Raises {
-            ltc: false,
-            iae: false,
-            lck: true,
-            oci: false,
-            ais: false,
-        },
-        Status::Oci => Raises {
-            ltc: false,
-            iae: false,
-            lck: false,
-            oci: true,
-            ais: false,
-        },
-        Status::Ais => Raises {
-            ltc: false,
-            iae: false,
-            lck: false,
-            oci: false,
-            ais: true,
-        },
+    Raises {
+        ltc: matches!(s, Status::Ltc),
+        iae: matches!(s, Status::Iae),
+        lck: matches!(s, Status::Lck),
+        oci: matches!(s, Status::Oci),
+        ais: matches!(s, Status::Ais),
     }
 }
 
-// What stands, where dTIM is known.
-#[tactic(auto, unfolding(crate::specs::Level::stands_by))]
-fn stands_by(s: LevelState, ssf: bool, tim: bool, disabled: bool) -> LevelStands
-    ensures { result ≡ stands_by s ssf tim disabled }
-{
-    let t = s.stat;
-    let status = status_for(t);
-    let raises = raises_of(status);
-    LevelStands {
-        ssf: ssf,
-        status: status,
-        tim: tim,
-        disabled: disabled,
-        bdi: s.layer.bdi.on,
-        iae: raises.iae & !tim,
-        biae: s.biae.on,
-        deg: s.layer.deg.on,
+impl LevelState {
+    // What stands, where dTIM is known.
+    #[tactic(auto, unfolding(crate::specs::Level::stands_by))]
+    fn stands_by(&self, ssf: bool, tim: bool, disabled: bool) -> LevelStands
+        ensures { result ≡ stands_by self.now ssf tim disabled }
+    {
+        let status = status_for(self.stat);
+        LevelStands {
+            ssf,
+            status,
+            tim,
+            disabled,
+            bdi: self.layer.bdi.on,
+            iae: raises_of(status).iae & !tim,
+            biae: self.biae.on,
+            deg: self.layer.deg.on,
+        }
     }
-}
 
-// What stands of a level under SSF or not.
-pub fn level_stands(s: LevelState, p: Options, ssf: bool) -> LevelStands
-    ensures { result ≡ level_stands s p ssf }
-{
-    let l = s.layer;
-    let names = p.names;
-    let tim = layer::tim(l, p.mode, names);
-    stands_by(s, ssf, tim, p.disabled)
-}
+    // What stands of a level under SSF or not.
+    pub fn stands(&self, p: &Options, ssf: bool) -> LevelStands
+        ensures { result ≡ level_stands self.now p.now ssf }
+    {
+        let tim = self.layer.tim(p.mode, &p.names);
+        self.stands_by(ssf, tim, p.disabled)
+    }
 
-// The level after a frame: STAT before its trace and BDI, and dTIM before dBIAE.
-#[tactic(auto, unfolding(crate::specs::Level::level_of))]
-pub fn level_step(s: LevelState, p: Options, ssf: bool, m: Multi, f: Field) -> LevelFrame
-    ensures { result ≡ level_frame s p ssf m f }
-{
-    let l = s.layer;
-    let t = s.stat;
-    let b = s.biae;
-    let names = p.names;
-    let stat = filter::stat_step(t, ssf, f.stat);
-    let status = status_for(stat);
-    let raises = raises_of(status);
-    let forget = ssf | raises.ais;
-    let layer = layer::layer_step(l, forget, m.inmulti, m.number, f.tti, f.bdi);
-    let tim = layer::tim(layer, p.mode, names);
-    let read = overhead::bei_of(f.bei);
-    let mark = overhead::is_mark(read);
-    let biae = filter::filter_step(b, 3, forget | tim, mark);
-    let state = LevelState {
-        layer: layer,
-        stat: stat,
-        biae: biae,
-    };
-    let stands = stands_by(state, ssf, tim, p.disabled);
-    LevelFrame {
-        state: state,
-        stands: stands,
+    // The level after a frame: STAT before its trace and BDI, and dTIM before dBIAE.
+    #[tactic(auto, unfolding(crate::specs::Level::level_of))]
+    pub fn step(&mut self, p: &Options, ssf: bool, m: &Multi, f: &Field) -> LevelStands
+        ensures state { self.new ≡ level_of self.old p.now ssf m.now f.now }
+        ensures stands { result ≡ level_stands self.new p.now ssf }
+    {
+        self.stat = filter::stat_step(self.stat, ssf, f.stat);
+        let forget = ssf | raises_of(status_for(self.stat)).ais;
+        self.layer.step(forget, m.inmulti, m.number, f.tti, f.bdi);
+        let tim = self.layer.tim(p.mode, &p.names);
+        let mark = overhead::is_mark(overhead::bei_of(f.bei));
+        self.biae = filter::filter_step(self.biae, 3, forget | tim, mark);
+        self.stands_by(ssf, tim, p.disabled)
+    }
+
+    // The level at a mark: dDEG is decided by the second that is closed.
+    #[tactic(auto, unfolding(crate::specs::Level::level_marked))]
+    pub fn mark(&mut self, p: &Options, c: &LevelSecond)
+        ensures { self.new ≡ level_marked self.old p.now c.now }
+    {
+        frame::degrade(&mut self.layer, p, level_closed(*c).near.0);
     }
 }
 
@@ -229,18 +177,15 @@ pub fn level_step(s: LevelState, p: Options, ssf: bool, m: Multi, f: Field) -> L
 fn down(d: LevelStands) -> bool
     ensures { result ≡ level_down d }
 {
-    let status = d.status;
-    let raises = raises_of(status);
+    let raises = raises_of(d.status);
     d.ssf | raises.ais | raises.ltc | raises.oci | raises.lck
 }
 
 pub fn level_actions(d: LevelStands) -> LevelActions
     ensures { result ≡ level_actions d }
 {
-    let fails = down(d);
-    let acts = causes::tim_acts(d.tim, d.disabled);
     LevelActions {
-        tsf: fails | acts,
+        tsf: down(d) | causes::tim_acts(d.tim, d.disabled),
         tsd: d.deg,
     }
 }
@@ -248,8 +193,7 @@ pub fn level_actions(d: LevelStands) -> LevelActions
 pub fn level_causes(d: LevelStands) -> LevelCauses
     ensures { result ≡ level_causes d }
 {
-    let status = d.status;
-    let raises = raises_of(status);
+    let raises = raises_of(d.status);
     let fails = down(d);
     let acts = causes::tim_acts(d.tim, d.disabled);
     LevelCauses {
@@ -268,28 +212,24 @@ pub fn level_shows(d: LevelStands, bei: u8, violations: u8) -> Shows
     ensures { result ≡ level_shows d bei violations }
 {
     let fails = down(d);
-    let far = overhead::bei_of(bei);
     Shows {
         stopped: fails,
         near: 1 <= violations,
-        far: far,
+        far: overhead::bei_of(bei),
         neards: fails | d.tim,
         fards: d.bdi,
     }
 }
 
-// The open second after one more frame.
-#[tactic(auto, unfolding(crate::specs::Level::level_count))]
-pub fn level_count(c: LevelSecond, d: LevelStands, bei: u8, violations: u8) -> LevelSecond
-    ensures { result ≡ level_count c d bei violations }
-{
-    let b = c.blocks;
-    let shows = level_shows(d, bei, violations);
-    let blocks = second::blocks_step(b, shows);
-    LevelSecond {
-        blocks: blocks,
-        iae: c.iae | d.iae,
-        biae: c.biae | d.biae,
+impl LevelSecond {
+    // The open second after one more frame.
+    #[tactic(auto, unfolding(crate::specs::Level::level_count))]
+    pub fn count(&mut self, d: &LevelStands, bei: u8, violations: u8)
+        ensures { self.new ≡ level_count self.old d.now bei violations }
+    {
+        self.blocks.step(&level_shows(*d, bei, violations));
+        self.iae |= d.iae;
+        self.biae |= d.biae;
     }
 }
 
@@ -297,37 +237,17 @@ pub fn level_count(c: LevelSecond, d: LevelStands, bei: u8, violations: u8) -> L
 pub fn level_closed(c: LevelSecond) -> Blocks
     ensures { result ≡ level_closed c }
 {
-    let b = c.blocks;
-    second::discard(b, c.iae, c.biae)
-}
-
-// The level at a mark: dDEG is decided by the second that is closed.
-#[tactic(auto, unfolding(crate::specs::Level::level_marked))]
-pub fn level_mark(s: LevelState, p: Options, c: LevelSecond) -> LevelState
-    ensures { result ≡ level_marked s p c }
-{
-    let done = level_closed(c);
-    let mut layer = s.layer;
-    let d = layer.deg;
-    let deg = filter::filter_step(d, p.degm, false, p.thr <= done.near.0);
-    layer.deg = deg;
-    let mut n = s;
-    n.layer = layer;
-    n
+    second::discard(c.blocks, c.iae, c.biae)
 }
 
 // A level with no frame yet: nothing accepted, no defects.
 pub fn fresh_level() -> LevelState
     ensures { result ≡ fresh_level }
 {
-    let fresh = frame::fresh_layers();
-    let layer = fresh.path.layer;
-    let stat = fresh.path.stat;
-    let biae = fresh.section.biae;
     LevelState {
-        layer: layer,
-        stat: stat,
-        biae: biae,
+        layer: frame::fresh_layers().path.layer,
+        stat: Stat::default(),
+        biae: Filter::default(),
     }
 }
 
@@ -335,15 +255,5 @@ pub fn fresh_level() -> LevelState
 pub fn fresh_level_second() -> LevelSecond
     ensures { result ≡ fresh_level_second }
 {
-    LevelSecond {
-        blocks: Blocks {
-            near: Near(0),
-            far: Far(0),
-            neards: false,
-            fards: false,
-            sum: Sum(0),
-        },
-        iae: false,
-        biae: false,
-    }
+    LevelSecond::default()
 }

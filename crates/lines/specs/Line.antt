@@ -22,6 +22,10 @@ unfoldable pub line_for : Note → List ℕ
 line_for (second figures) = second_line figures
 line_for (change total was is) = change_line (is.sup.tandem.base.seconds + 1) is.sup.tandem.base.second.frames.0 total (shown_in was) (shown_in is)
 
+-- the line of a record that was told, of what was shown before it and the state after it
+abbrev pub told_for : ℕ → Shown → State → List ℕ
+told_for total before is = change_line (is.sup.tandem.base.seconds + 1) is.sup.tandem.base.second.frames.0 total before (shown_in is)
+
 -- Nothing that is shown changes with a mark: one that reports nothing has no line.
 abbrev pub MarkUntold : Type 0
 MarkUntold = (total : ℕ) (st : State) → line_for (change total st (after_call 0 st watch.marks)) ≡ []

@@ -1,4 +1,3 @@
-pub mod Overs
 pub mod Refuted
+pub mod Texts
 pub mod Unique
-pub mod Wrotes

@@ -1,8 +1,6 @@
--- No second answer, and no second content of the lent buffer, meets the contract of a public function. Assumes nothing.
-use mathlib.Core.Path.{sym, ◌∙◌}
-use mathlib.Core.List.{List}
-use Prim.Native.Nat.{ℕ}
-use Rattle.answer.specs.Answer.{OneAnswer, OneEnd}
+-- No second content of the lent buffer, and so no second length, meets the contract of a public function, whatever its capacity. Assumes nothing.
+use Rattle.std.proofs.Common.{List, ℕ, Fits, w64, length, ap, sym, ◌∙◌}
+use Rattle.answer.specs.Answer.{OneEnd}
 use Rattle.listing.proofs.put_text.Kinds as text_kinds
 use Rattle.listing.proofs.put_text.Reads as text_reads
 use Rattle.listing.proofs.put_number.Kinds as number_kinds
@@ -18,44 +16,65 @@ use Rattle.listing.proofs.end_line.Reads as end_reads
 use Rattle.listing.proofs.bin_line.Kinds as bin_kinds
 use Rattle.listing.proofs.bin_line.Reads as bin_reads
 
-pub text_one : OneAnswer 2 text_kinds.ps text_kinds.r text_reads.Post
-text_one κs a x y s t p q = p.0 ∙ sym q.0
+pub text_end : (CAP : ℕ) (h : Fits w64 CAP) → OneEnd 3 (text_kinds.ps CAP h) (text_kinds.r CAP h) (List ℕ) (λ κs s. s.1.0.now.items) (text_reads.Post CAP h)
+text_end CAP h κs a x y s t p q =
+    let c = text_reads.post-apart CAP h κs a x s p in
+    let d = text_reads.post-apart CAP h κs a y t q in
+    c.put ∙ sym d.put
 
-pub text_end : OneEnd 2 text_kinds.ps text_kinds.r (List ℕ) (λ κs s. s.1.0.now) text_reads.Post
-text_end κs a x y s t p q = p.1 ∙ sym q.1
+pub text_one : (CAP : ℕ) (h : Fits w64 CAP) → OneEnd 3 (text_kinds.ps CAP h) (text_kinds.r CAP h) ℕ (λ κs s. length s.1.0.now.items) (text_reads.Post CAP h)
+text_one CAP h κs a x y s t p q = ap (λ (l : List ℕ). length l) (text_end CAP h κs a x y s t p q)
 
-pub number_one : OneAnswer 1 number_kinds.ps number_kinds.r number_reads.Post
-number_one κs a x y s t p q = p.0 ∙ sym q.0
+pub number_end : (CAP : ℕ) (h : Fits w64 CAP) → OneEnd 2 (number_kinds.ps CAP h) (number_kinds.r CAP h) (List ℕ) (λ κs s. s.1.0.now.items) (number_reads.Post CAP h)
+number_end CAP h κs a x y s t p q =
+    let c = number_reads.post-apart CAP h κs a x s p in
+    let d = number_reads.post-apart CAP h κs a y t q in
+    c.put ∙ sym d.put
 
-pub number_end : OneEnd 1 number_kinds.ps number_kinds.r (List ℕ) (λ κs s. s.1.0.now) number_reads.Post
-number_end κs a x y s t p q = p.1 ∙ sym q.1
+pub number_one : (CAP : ℕ) (h : Fits w64 CAP) → OneEnd 2 (number_kinds.ps CAP h) (number_kinds.r CAP h) ℕ (λ κs s. length s.1.0.now.items) (number_reads.Post CAP h)
+number_one CAP h κs a x y s t p q = ap (λ (l : List ℕ). length l) (number_end CAP h κs a x y s t p q)
 
-pub start_one : OneAnswer 1 start_kinds.ps start_kinds.r start_reads.Post
-start_one κs a x y s t p q = p.0 ∙ sym q.0
+pub start_end : (CAP : ℕ) (h : Fits w64 CAP) → OneEnd 2 (start_kinds.ps CAP h) (start_kinds.r CAP h) (List ℕ) (λ κs s. s.1.1.0.now.items) (start_reads.Post CAP h)
+start_end CAP h κs a x y s t p q =
+    let c = start_reads.post-apart CAP h κs a x s p in
+    let d = start_reads.post-apart CAP h κs a y t q in
+    c.put ∙ sym d.put
 
-pub start_end : OneEnd 1 start_kinds.ps start_kinds.r (List ℕ) (λ κs s. s.1.1.0.now) start_reads.Post
-start_end κs a x y s t p q = p.1 ∙ sym q.1
+pub start_one : (CAP : ℕ) (h : Fits w64 CAP) → OneEnd 2 (start_kinds.ps CAP h) (start_kinds.r CAP h) ℕ (λ κs s. length s.1.1.0.now.items) (start_reads.Post CAP h)
+start_one CAP h κs a x y s t p q = ap (λ (l : List ℕ). length l) (start_end CAP h κs a x y s t p q)
 
-pub second_one : OneAnswer 1 second_kinds.ps second_kinds.r second_reads.Post
-second_one κs a x y s t p q = p.0 ∙ sym q.0
+pub second_end : (CAP : ℕ) (h : Fits w64 CAP) → OneEnd 3 (second_kinds.ps CAP h) (second_kinds.r CAP h) (List ℕ) (λ κs s. s.1.0.now.items) (second_reads.Post CAP h)
+second_end CAP h κs a x y s t p q =
+    let c = second_reads.post-apart CAP h κs a x s p in
+    let d = second_reads.post-apart CAP h κs a y t q in
+    c.put ∙ sym d.put
 
-pub second_end : OneEnd 1 second_kinds.ps second_kinds.r (List ℕ) (λ κs s. s.1.1.0.now) second_reads.Post
-second_end κs a x y s t p q = p.2 ∙ sym q.2
+pub second_one : (CAP : ℕ) (h : Fits w64 CAP) → OneEnd 3 (second_kinds.ps CAP h) (second_kinds.r CAP h) ℕ (λ κs s. length s.1.0.now.items) (second_reads.Post CAP h)
+second_one CAP h κs a x y s t p q = ap (λ (l : List ℕ). length l) (second_end CAP h κs a x y s t p q)
 
-pub refusal_one : OneAnswer 1 refusal_kinds.ps refusal_kinds.r refusal_reads.Post
-refusal_one κs a x y s t p q = p.0 ∙ sym q.0
+pub refusal_end : (CAP : ℕ) (h : Fits w64 CAP) → OneEnd 2 (refusal_kinds.ps CAP h) (refusal_kinds.r CAP h) (List ℕ) (λ κs s. s.1.1.0.now.items) (refusal_reads.Post CAP h)
+refusal_end CAP h κs a x y s t p q =
+    let c = refusal_reads.post-apart CAP h κs a x s p in
+    let d = refusal_reads.post-apart CAP h κs a y t q in
+    c.put ∙ sym d.put
 
-pub refusal_end : OneEnd 1 refusal_kinds.ps refusal_kinds.r (List ℕ) (λ κs s. s.1.1.0.now) refusal_reads.Post
-refusal_end κs a x y s t p q = p.1 ∙ sym q.1
+pub refusal_one : (CAP : ℕ) (h : Fits w64 CAP) → OneEnd 2 (refusal_kinds.ps CAP h) (refusal_kinds.r CAP h) ℕ (λ κs s. length s.1.1.0.now.items) (refusal_reads.Post CAP h)
+refusal_one CAP h κs a x y s t p q = ap (λ (l : List ℕ). length l) (refusal_end CAP h κs a x y s t p q)
 
-pub end_one : OneAnswer 1 end_kinds.ps end_kinds.r end_reads.Post
-end_one κs a x y s t p q = p.0 ∙ sym q.0
+pub end_end : (CAP : ℕ) (h : Fits w64 CAP) → OneEnd 2 (end_kinds.ps CAP h) (end_kinds.r CAP h) (List ℕ) (λ κs s. s.1.1.0.now.items) (end_reads.Post CAP h)
+end_end CAP h κs a x y s t p q =
+    let c = end_reads.post-apart CAP h κs a x s p in
+    let d = end_reads.post-apart CAP h κs a y t q in
+    c.put ∙ sym d.put
 
-pub end_end : OneEnd 1 end_kinds.ps end_kinds.r (List ℕ) (λ κs s. s.1.1.0.now) end_reads.Post
-end_end κs a x y s t p q = p.1 ∙ sym q.1
+pub end_one : (CAP : ℕ) (h : Fits w64 CAP) → OneEnd 2 (end_kinds.ps CAP h) (end_kinds.r CAP h) ℕ (λ κs s. length s.1.1.0.now.items) (end_reads.Post CAP h)
+end_one CAP h κs a x y s t p q = ap (λ (l : List ℕ). length l) (end_end CAP h κs a x y s t p q)
 
-pub bin_one : OneAnswer 1 bin_kinds.ps bin_kinds.r bin_reads.Post
-bin_one κs a x y s t p q = p.0 ∙ sym q.0
+pub bin_end : (CAP : ℕ) (h : Fits w64 CAP) → OneEnd 2 (bin_kinds.ps CAP h) (bin_kinds.r CAP h) (List ℕ) (λ κs s. s.1.1.1.0.now.items) (bin_reads.Post CAP h)
+bin_end CAP h κs a x y s t p q =
+    let c = bin_reads.post-apart CAP h κs a x s p in
+    let d = bin_reads.post-apart CAP h κs a y t q in
+    c.put ∙ sym d.put
 
-pub bin_end : OneEnd 1 bin_kinds.ps bin_kinds.r (List ℕ) (λ κs s. s.1.1.1.0.now) bin_reads.Post
-bin_end κs a x y s t p q = p.2 ∙ sym q.2
+pub bin_one : (CAP : ℕ) (h : Fits w64 CAP) → OneEnd 2 (bin_kinds.ps CAP h) (bin_kinds.r CAP h) ℕ (λ κs s. length s.1.1.1.0.now.items) (bin_reads.Post CAP h)
+bin_one CAP h κs a x y s t p q = ap (λ (l : List ℕ). length l) (bin_end CAP h κs a x y s t p q)

@@ -1,187 +1,160 @@
-// The text of the listing's lines, put into a lent buffer.
+// The text of the listing's lines, put at the end of a lent buffer.
+// No Display and no `write!`: tried, and a line took 2.2 times the instructions into a String, and 4.7 times by a writer, with an adapter for each piece.
 #![tactic(auto)]
 
-ghost use Rattle.std.specs.Prelude.{◌≡◌, [], ◌∷◌, ◌+◌, ◌-◌, ◌*◌, ◌≤◌, ◌<◌, length, take};
-ghost use Rattle.answer.specs.Over.{over};
+ghost use Rattle.std.specs.Prelude.{◌≡◌, [], ◌∷◌, ◌++◌, ◌+◌, ◌*◌, ◌≤◌, length, take};
 ghost use Rattle.listing.specs.Text.{decimal_of, spaced, fields_of, line_start, text_line, fitted, second_line, refusal_line, end_line, number_room, start_room, second_room, bin_room, pair_room};
-ghost use Rattle.listing.specs.Wrote.{Wrote};
 
-fn wide(x: u32) -> u64
-    ensures { result ≡ x }
-{
-    x as u64
-}
+use arrayvec::ArrayVec;
+use itoa::Buffer;
 
-fn wide8(x: u8) -> u64
-    ensures { result ≡ x }
-{
-    x as u64
-}
+// The rooms of specs/.
+const NUMBER_ROOM: usize = 20;
 
-// The bytes from a place to the end.
-fn room(long: usize, at: usize) -> usize
-    ensures { result ≡ long - at }
-{
-    if long < at {
-        return 0;
-    }
-    long - at
-}
+const START_ROOM: usize = 64;
 
-// Puts the bytes of src at a place and answers the place after them. Where there is no room for all of them, it puts nothing.
-pub fn put_text(src: &[u8], out: &mut [u8], at: usize) -> usize
-    ensures { (result ≡ at + length (fitted (length out.old) at (length src.now) src.now)) × (out.new ≡ over out.old at (fitted (length out.old) at (length src.now) src.now)) }
+const SECOND_ROOM: usize = 1094;
+
+const BIN_ROOM: usize = 506;
+
+const PAIR_ROOM: usize = 44;
+
+// Puts a text at the end. Where there is no room for all of it, it puts nothing.
+// Three clauses, here and below, and no one definition: callers cite each by its name, and a reader sees what is put, when it is all, and how much.
+#[tactic(auto, using(crate::proofs::Texts::fitted_is), unfolding(crate::specs::Text::fitted))]
+pub fn put_text<const CAP: usize>(text: &[u8], out: &mut ArrayVec<u8, CAP>)
+    ensures put { out.new.items ≡ out.old.items ++ fitted CAP (length out.old.items) (length text.now) text.now }
+    ensures whole { length out.old.items + length text.now ≤ CAP → out.new.items ≡ out.old.items ++ text.now }
+    ensures bound { length out.new.items ≤ length out.old.items + length text.now }
 {
-    let free = room(out.len(), at);
-    if free < src.len() {
-        return at;
-    }
-    codec::lay_bytes(out, at, src);
-    at + src.len()
+    let _ = out.try_extend_from_slice(text);
 }
 
 // Puts the digits of a number, as `put_text` does, where there is room for 20.
-pub fn put_number(n: u64, out: &mut [u8], at: usize) -> usize
-    ensures { (result ≡ at + length (fitted (length out.old) at number_room (decimal_of n))) × (out.new ≡ over out.old at (fitted (length out.old) at number_room (decimal_of n))) }
+#[tactic(auto, using(crate::proofs::Texts::decimal_is, crate::proofs::Texts::fitted_is), unfolding(crate::specs::Text::fitted))]
+pub fn put_number<const CAP: usize>(n: u64, out: &mut ArrayVec<u8, CAP>)
+    ensures put { out.new.items ≡ out.old.items ++ fitted CAP (length out.old.items) number_room (decimal_of n) }
+    ensures whole { length out.old.items + number_room ≤ CAP → out.new.items ≡ out.old.items ++ decimal_of n }
+    ensures bound { length out.new.items ≤ length out.old.items + number_room }
 {
-    let free = room(out.len(), at);
-    if 20 <= free {
-        let mut digits = [0u8; 20];
-        let k = io::decimal(n, &mut digits);
-        return put_text(&digits[..k], out, at);
+    if NUMBER_ROOM <= out.remaining_capacity() {
+        let mut digits = Buffer::new();
+        out.try_extend_from_slice(digits.format(n).as_bytes())
+            .unwrap();
     }
-    at
-}
-
-// One byte.
-fn put_byte(b: u8, out: &mut [u8], at: usize) -> usize
-    requires { at < length out.old }
-    ensures { Wrote 1 out.old at result out.new (b ∷ []) }
-{
-    out[at] = b;
-    at + 1
 }
 
 // A blank and a number.
 #[tactic(auto, unfolding(crate::specs::Text::spaced))]
-fn put_field(n: u64, out: &mut [u8], at: usize) -> usize
-    requires { at + 21 ≤ length out.old }
-    ensures { Wrote 21 out.old at result out.new (spaced n) }
+fn put_field<const CAP: usize>(n: u64, out: &mut ArrayVec<u8, CAP>)
+    requires { length out.old.items + 21 ≤ CAP }
+    ensures items { out.new.items ≡ out.old.items ++ spaced n }
+    ensures bound { length out.new.items ≤ length out.old.items + 21 }
 {
-    let p = put_byte(b' ', out, at);
-    put_number(n, out, p)
+    out.push(b' ');
+    put_number(n, out);
 }
 
 // The numbers, each after a blank.
 #[tactic(auto, unfolding(crate::specs::Text::fields_of))]
-fn put_fields(ns: &[u64], out: &mut [u8], from: usize) -> usize
-    requires { from + 21 * length ns.now ≤ length out.old }
-    ensures { Wrote (21 * length ns.now) out.old from result out.new (fields_of ns.now) }
+fn put_fields<const CAP: usize>(ns: &[u64], out: &mut ArrayVec<u8, CAP>)
+    requires { length out.old.items + 21 * length ns.now ≤ CAP }
+    ensures items { out.new.items ≡ out.old.items ++ fields_of ns.now }
+    ensures bound { length out.new.items ≤ length out.old.items + 21 * length ns.now }
 {
-    let mut at = from;
-    let mut i = 0;
-    while i < ns.len() {
-        at = put_field(ns[i], out, at);
-        i += 1;
+    for n in ns {
+        put_field(*n, out);
     }
-    at
 }
 
 // Puts a letter and three numbers, the start of a line, as `put_text` does, where there is room for `start_room`.
-pub fn put_start(letter: u8, ns: [u64; 3], out: &mut [u8], at: usize) -> usize
-    ensures { (result ≡ at + length (fitted (length out.old) at start_room (line_start letter ns))) × (out.new ≡ over out.old at (fitted (length out.old) at start_room (line_start letter ns))) }
+#[tactic(auto, using(crate::proofs::Texts::fitted_is), unfolding(crate::specs::Text::fitted))]
+pub fn put_start<const CAP: usize>(letter: u8, ns: [u64; 3], out: &mut ArrayVec<u8, CAP>)
+    ensures put { out.new.items ≡ out.old.items ++ fitted CAP (length out.old.items) start_room (line_start letter ns) }
+    ensures whole { length out.old.items + start_room ≤ CAP → out.new.items ≡ out.old.items ++ line_start letter ns }
+    ensures bound { length out.new.items ≤ length out.old.items + start_room }
 {
-    let free = room(out.len(), at);
-    if 64 <= free {
-        let p = put_byte(letter, out, at);
-        return put_fields(&ns, out, p);
+    if START_ROOM <= out.remaining_capacity() {
+        out.push(letter);
+        put_fields(&ns, out);
     }
-    at
 }
 
-// A line: a letter, the numbers and a line end.
-#[tactic(auto, unfolding(crate::specs::Text::text_line))]
-fn put_line(letter: u8, ns: &[u64], out: &mut [u8], at: usize) -> usize
-    requires { at + (2 + 21 * length ns.now) ≤ length out.old }
-    ensures { Wrote (2 + 21 * length ns.now) out.old at result out.new (text_line letter ns.now) }
+// The line of a closed second.
+#[tactic(auto, unfolding(crate::specs::Text::fields_of))]
+fn put_second<const CAP: usize>(figures: &[u32], out: &mut ArrayVec<u8, CAP>)
+    requires { length out.old.items + second_room ≤ CAP }
+    ensures items { out.new.items ≡ out.old.items ++ second_line (take 52 figures.now) }
+    ensures bound { length out.new.items ≤ length out.old.items + second_room }
 {
-    let p = put_byte(letter, out, at);
-    let q = put_fields(ns, out, p);
-    put_byte(b'\n', out, q)
-}
-
-// The figures of a second as they are put.
-fn widened(figures: [u32; 52]) -> [u64; 52]
-    ensures { result ≡ figures }
-{
-    let mut ns = [0u64; 52];
-    for i in 0..52 {
-        ns[i] = wide(figures[i]);
+    out.push(b'S');
+    for n in &figures[..figures.len().min(52)] {
+        put_field(u64::from(*n), out);
     }
-    ns
+    out.push(b'\n');
 }
 
-// Puts the line of a closed second, of the first n of its figures (all of them where n is more), at a place and answers the place after it. Where
-// there is less room than `second_room`, it puts nothing.
-pub fn second_line(figures: [u32; 52], n: usize, out: &mut [u8], at: usize) -> usize
-    ensures { (result ≡ at + length (fitted (length out.old) at second_room (second_line (take n figures)))) × (result ≤ at + second_room) × (out.new ≡ over out.old at (fitted (length out.old) at second_room (second_line (take n figures)))) }
+// Puts the line of a closed second, of the first 52 of its figures (no second has more), as `put_text` does, where there is room for `second_room`.
+#[tactic(auto, using(crate::proofs::Texts::fitted_is), unfolding(crate::specs::Text::fitted))]
+pub fn second_line<const CAP: usize>(figures: &[u32], out: &mut ArrayVec<u8, CAP>)
+    ensures put { out.new.items ≡ out.old.items ++ fitted CAP (length out.old.items) second_room (second_line (take 52 figures.now)) }
+    ensures whole { length out.old.items + second_room ≤ CAP → out.new.items ≡ out.old.items ++ second_line (take 52 figures.now) }
+    ensures bound { length out.new.items ≤ length out.old.items + second_room }
 {
-    let free = room(out.len(), at);
-    if 1094 <= free {
-        let ns = widened(figures);
-        if n < 52 {
-            return put_line(b'S', &ns[0..n], out, at);
-        }
-        return put_line(b'S', &ns, out, at);
+    if SECOND_ROOM <= out.remaining_capacity() {
+        put_second(figures, out);
     }
-    at
 }
 
-// A line of a number and of others behind it.
-#[tactic(auto, unfolding(crate::specs::Text::text_line, crate::specs::Text::fields_of))]
-fn put_numbered(letter: u8, number: u64, ns: &[u64], out: &mut [u8], at: usize) -> usize
-    requires { at + (23 + 21 * length ns.now) ≤ length out.old }
-    ensures { Wrote (23 + 21 * length ns.now) out.old at result out.new (text_line letter (number ∷ ns.now)) }
+// Puts the line of a quarter-hour or a day, of its letter, its number and its summary's, as `second_line` does, where there is room for `bin_room`.
+#[tactic(auto, using(crate::proofs::Texts::fitted_is), unfolding(crate::specs::Text::fitted, crate::specs::Text::text_line, crate::specs::Text::fields_of))]
+pub fn bin_line<const CAP: usize>(
+    letter: u8,
+    number: u64,
+    figures: [u64; 23],
+    out: &mut ArrayVec<u8, CAP>,
+)
+    ensures put { out.new.items ≡ out.old.items ++ fitted CAP (length out.old.items) bin_room (text_line letter (number ∷ figures)) }
+    ensures whole { length out.old.items + bin_room ≤ CAP → out.new.items ≡ out.old.items ++ text_line letter (number ∷ figures) }
+    ensures bound { length out.new.items ≤ length out.old.items + bin_room }
 {
-    let p = put_byte(letter, out, at);
-    let q = put_field(number, out, p);
-    let t = put_fields(ns, out, q);
-    put_byte(b'\n', out, t)
-}
-
-// Puts the line of a quarter-hour or a day, of its letter, its number and its summary's, as `second_line` does.
-pub fn bin_line(letter: u8, number: u64, ns: [u64; 23], out: &mut [u8], at: usize) -> usize
-    ensures { (result ≡ at + length (fitted (length out.old) at bin_room (text_line letter (number ∷ ns)))) × (result ≤ at + bin_room) × (out.new ≡ over out.old at (fitted (length out.old) at bin_room (text_line letter (number ∷ ns)))) }
-{
-    let free = room(out.len(), at);
-    if 506 <= free {
-        return put_numbered(letter, number, &ns, out, at);
+    if BIN_ROOM <= out.remaining_capacity() {
+        out.push(letter);
+        put_field(number, out);
+        put_fields(&figures, out);
+        out.push(b'\n');
     }
-    at
 }
 
 // A letter and two numbers.
-fn pair_line(letter: u8, a: u64, b: u64, out: &mut [u8], at: usize) -> usize
-    ensures { (result ≡ at + length (fitted (length out.old) at pair_room (text_line letter (a ∷ b ∷ [])))) × (out.new ≡ over out.old at (fitted (length out.old) at pair_room (text_line letter (a ∷ b ∷ [])))) }
+#[tactic(auto, using(crate::proofs::Texts::fitted_is), unfolding(crate::specs::Text::fitted, crate::specs::Text::text_line, crate::specs::Text::fields_of))]
+fn pair_line<const CAP: usize>(letter: u8, a: u64, b: u64, out: &mut ArrayVec<u8, CAP>)
+    ensures put { out.new.items ≡ out.old.items ++ fitted CAP (length out.old.items) pair_room (text_line letter (a ∷ b ∷ [])) }
+    ensures whole { length out.old.items + pair_room ≤ CAP → out.new.items ≡ out.old.items ++ text_line letter (a ∷ b ∷ []) }
+    ensures bound { length out.new.items ≤ length out.old.items + pair_room }
 {
-    let free = room(out.len(), at);
-    if 44 <= free {
-        let ns = [a, b];
-        return put_line(letter, &ns, out, at);
+    if PAIR_ROOM <= out.remaining_capacity() {
+        out.push(letter);
+        put_field(a, out);
+        put_field(b, out);
+        out.push(b'\n');
     }
-    at
 }
 
-// Puts the line of a refusal, as `second_line` does.
-pub fn refusal_line(number: u8, offset: u64, out: &mut [u8], at: usize) -> usize
-    ensures { (result ≡ at + length (fitted (length out.old) at pair_room (refusal_line number offset))) × (out.new ≡ over out.old at (fitted (length out.old) at pair_room (refusal_line number offset))) }
+// Puts the line of a refusal, as `second_line` does, where there is room for `pair_room`.
+pub fn refusal_line<const CAP: usize>(number: u8, offset: u64, out: &mut ArrayVec<u8, CAP>)
+    ensures put { out.new.items ≡ out.old.items ++ fitted CAP (length out.old.items) pair_room (refusal_line number offset) }
+    ensures whole { length out.old.items + pair_room ≤ CAP → out.new.items ≡ out.old.items ++ refusal_line number offset }
+    ensures bound { length out.new.items ≤ length out.old.items + pair_room }
 {
-    pair_line(b'R', wide8(number), offset, out, at)
+    pair_line(b'R', u64::from(number), offset, out);
 }
 
-// Puts the last line, as `second_line` does.
-pub fn end_line(marks: u32, frames: u64, out: &mut [u8], at: usize) -> usize
-    ensures { (result ≡ at + length (fitted (length out.old) at pair_room (end_line marks frames))) × (out.new ≡ over out.old at (fitted (length out.old) at pair_room (end_line marks frames))) }
+// Puts the last line, as `second_line` does, where there is room for `pair_room`.
+pub fn end_line<const CAP: usize>(marks: u32, frames: u64, out: &mut ArrayVec<u8, CAP>)
+    ensures put { out.new.items ≡ out.old.items ++ fitted CAP (length out.old.items) pair_room (end_line marks frames) }
+    ensures whole { length out.old.items + pair_room ≤ CAP → out.new.items ≡ out.old.items ++ end_line marks frames }
+    ensures bound { length out.new.items ≤ length out.old.items + pair_room }
 {
-    pair_line(b'E', wide(marks), frames, out, at)
+    pair_line(b'E', u64::from(marks), frames, out);
 }

@@ -1,10 +1,9 @@
 // The path's fault causes by lookup: eight yes-or-no inputs select a byte of a table. The equations are in `causes`.
 #![tactic(auto)]
 
-ghost use Rattle.std.specs.Prelude.{◌≡◌, ◌≤◌};
-ghost use Rattle.answer.specs.Bits.{flag};
+ghost use Rattle.std.specs.Prelude.{◌≡◌};
 ghost use Rattle.causes.specs.Causes.{causes_by};
-ghost use Rattle.lookup.specs.Lookup.{index_of, byte_of, entry, causes_in, report_raised};
+ghost use Rattle.lookup.specs.Lookup.{byte_of, entry, causes_in, report_raised};
 
 use causes::{PathCauses, Report, Standing};
 use signal::Raised;
@@ -29,37 +28,7 @@ const CAUSES: [u8; 256] = *b"\
     \x18\x20\x20\x20\x01\x20\x21\x20\x02\x20\x22\x20\x03\x20\x23\x20\
     \x1c\x20\x20\x20\x01\x20\x21\x20\x02\x20\x22\x20\x03\x20\x23\x20";
 
-// A bit as a number: a cast, and no branch.
-fn bit_of(x: bool) -> u8
-    ensures { (result ≡ flag x) × (result ≤ 1) }
-{
-    x as u8
-}
-
-// Which entry the eight inputs select: the first is the lowest bit.
-fn index_of(
-    ssf: bool,
-    ais: bool,
-    oci: bool,
-    lck: bool,
-    tim: bool,
-    disabled: bool,
-    deg: bool,
-    bdi: bool,
-) -> u8
-    ensures { result ≡ index_of ssf ais oci lck tim disabled deg bdi }
-{
-    bit_of(ssf)
-        + 2 * bit_of(ais)
-        + 4 * bit_of(oci)
-        + 8 * bit_of(lck)
-        + 16 * bit_of(tim)
-        + 32 * bit_of(disabled)
-        + 64 * bit_of(deg)
-        + 128 * bit_of(bdi)
-}
-
-// The cause byte that the eight inputs select.
+// The cause byte that the eight inputs select. They stand one by one, as C hands them in: each a weight in the entry's number, and no branch.
 #[unsafe(no_mangle)]
 #[tactic(auto, unfolding(crate::specs::Lookup::entry, crate::specs::Lookup::cause_table))]
 pub extern "C" fn causes_by_table(
@@ -74,20 +43,27 @@ pub extern "C" fn causes_by_table(
 ) -> u8
     ensures { result ≡ entry ssf ais oci lck tim disabled deg bdi }
 {
-    let at = index_of(ssf, ais, oci, lck, tim, disabled, deg, bdi);
-    CAUSES[at as usize]
+    let at = u8::from(ssf)
+        + 2 * u8::from(ais)
+        + 4 * u8::from(oci)
+        + 8 * u8::from(lck)
+        + 16 * u8::from(tim)
+        + 32 * u8::from(disabled)
+        + 64 * u8::from(deg)
+        + 128 * u8::from(bdi);
+    CAUSES[usize::from(at)]
 }
 
-// The byte of causes, one bit for each.
+// The byte of causes, one bit for each. No `From`: neither type is of this crate.
 fn byte_of(c: PathCauses) -> u8
     ensures { result ≡ byte_of c }
 {
-    bit_of(c.oci)
-        + 2 * bit_of(c.lck)
-        + 4 * bit_of(c.tim)
-        + 8 * bit_of(c.deg)
-        + 16 * bit_of(c.bdi)
-        + 32 * bit_of(c.ssf)
+    u8::from(c.oci)
+        + 2 * u8::from(c.lck)
+        + 4 * u8::from(c.tim)
+        + 8 * u8::from(c.deg)
+        + 16 * u8::from(c.bdi)
+        + 32 * u8::from(c.ssf)
 }
 
 // The same byte by the equations: what stands beside the lookup where instructions are counted.
@@ -104,8 +80,7 @@ pub extern "C" fn causes_by_equations(
 ) -> u8
     ensures { result ≡ byte_of (causes_by ssf ais oci lck tim disabled deg bdi) }
 {
-    let c = causes::causes_by(ssf, ais, oci, lck, tim, disabled, deg, bdi);
-    byte_of(c)
+    byte_of(causes::causes_by(ssf, ais, oci, lck, tim, disabled, deg, bdi))
 }
 
 // The causes that a byte has.
@@ -132,6 +107,5 @@ pub fn report_by_table(raised: Raised, d: Standing, sm: u8, pm: u8) -> Report
     let byte = causes_by_table(
         ssf, raised.ais, raised.oci, raised.lck, p.tim, p.disabled, p.deg, p.bdi,
     );
-    let path = causes_in(byte);
-    causes::report_with(path, d, sm, pm)
+    causes::report_with(causes_in(byte), d, sm, pm)
 }

@@ -15,7 +15,7 @@ use Rattle.record.specs.declared.Record.TheVariants.{Frame, Mark, Provisioning, 
 use Rattle.record.specs.Record.{record_of, body_of, level_in}
 use Rattle.trace.specs.Scan.{taken_of, applied_of, provisioned_of, given_of}
 use Rattle.trace.specs.declared.State.{State}
-use Rattle.trace.specs.declared.Taken.{Taken}
+use Rattle.trace.specs.Scan.{Taken}
 use Rattle.meaning.specs.Before.{disabled_before, options_before, provision_before, given_before, fresh_before, level_before, act_before, provision_asked, provisioned_before, levelled_before, applied_before, taken_before}
 use Rattle.meaning.specs.Same.{Told, lent_to, kept_of, told_by, takens_by, Explicit, AllExplicit, ExplicitIn, RecordsExplicit, ExplicitSame}
 

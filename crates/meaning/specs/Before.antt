@@ -6,11 +6,11 @@ use Rattle.settings.specs.declared.Request.{Request}
 use Rattle.settings.specs.declared.Options.{Options}
 use Rattle.settings.specs.declared.Settings.{Settings}
 use Rattle.supervisor.specs.Supervisor.{fresh_of, blank_supervisor}
-use Rattle.supervisor.specs.declared.Provisioned.{Provisioned}
+use Rattle.supervisor.specs.Supervisor.{Provisioned}
 use Rattle.tandem.specs.Levels.{placed_at, given_level}
 use Rattle.tandem.specs.Tandem.{fresh_tandem, give_refusal, record_refusal}
 use Rattle.tandem.specs.declared.Tandem.{Tandem}
-use Rattle.tandem.specs.declared.Given.{Given}
+use Rattle.tandem.specs.Tandem.{Given}
 use Rattle.late.specs.Late.{fresh_late}
 use Rattle.slots.specs.Image.{late_bytes}
 use Rattle.card.specs.Calls.{unless, Provision, tandem_of, late_with, fresh_refusal, level_refusal}
@@ -20,7 +20,7 @@ use Rattle.record.specs.declared.Record.TheVariants.{Frame, Mark, Provisioning, 
 use Rattle.record.specs.Record.{record_of, body_of, section_in, path_in, level_in}
 use Rattle.trace.specs.Scan.{refused_of, answered_of, beside, after_giving, applied_of}
 use Rattle.trace.specs.declared.State.{State}
-use Rattle.trace.specs.declared.Taken.{Taken}
+use Rattle.trace.specs.Scan.{Taken}
 
 -- "2 default; the default is 0"
 abbrev pub disabled_before : ℕ → Bool

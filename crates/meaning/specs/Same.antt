@@ -11,7 +11,7 @@ use Rattle.record.specs.declared.Record.TheVariants.{Frame, Mark, Provisioning, 
 use Rattle.record.specs.Record.{record_of, body_of, section_in, path_in, level_in}
 use Rattle.trace.specs.Scan.{taken_of}
 use Rattle.trace.specs.declared.State.{State}
-use Rattle.trace.specs.declared.Taken.{Taken}
+use Rattle.trace.specs.Scan.{Taken}
 use Rattle.meaning.specs.Before.{options_before, act_before, taken_before}
 
 -- What C gets back of a use: the answer, and what the buffer and the bytes that it lent hold.

@@ -10,7 +10,7 @@ use lib.ListN.{set}
 use lib.Seq.{get_or-set_other}
 use Rattle.answer.specs.Bits.{flag}
 use Rattle.names.specs.declared.Compared.{Compared}
-use Rattle.names.specs.Names.{same_in, same_at, alike_in, unlike_in, compared_of, Compares, Read, EachRead}
+use Rattle.names.specs.Names.{same_in, same_at, alike_in, unlike_in, compared_of, Compares, EachRead}
 
 -- alike or unlike, and not both
 one_of : (b : Bool) → flag b + flag (not b) ≡ 1

@@ -28,7 +28,7 @@ pub struct Front {
 }
 
 // What a frame changes in a layer but the bytes of its traces. `iaeseen`, `biaeseen`: whether dIAE and dBIAE stood in some frame of the
-// open second. A section's STAT, a path's dIAE and dBIAE are quiet.
+// open second. A section's STAT, a path's dIAE and dBIAE are quiet. Flags beside their numbers as in `Layer` (theorem `round_trip`).
 #[derive(Clone, Copy)]
 pub struct State {
     pub known: bool,
@@ -43,176 +43,95 @@ pub struct State {
     pub biaeseen: bool,
 }
 
+// Bytes of numbers and back, four pairs of functions and no `From`: `Alignment` is of another crate, and `x % 256` of a word is a cast that no `From` makes.
 pub fn head_bytes(h: Head) -> [u8; 32]
     ensures { result ≡ head_bytes h }
 {
-    [
-        h.k,
-        0,
-        0,
-        0,
-        0,
-        0,
-        0,
-        0,
-        0,
-        0,
-        0,
-        0,
-        0,
-        0,
-        0,
-        0,
-        0,
-        0,
-        0,
-        0,
-        0,
-        0,
-        0,
-        0,
-        0,
-        0,
-        0,
-        0,
-        (h.seconds % 256) as u8,
-        (h.seconds / 256 % 256) as u8,
-        (h.seconds / 65536 % 256) as u8,
-        (h.seconds / 16777216 % 256) as u8,
-    ]
+    let mut bytes = [0; 32];
+    bytes[0] = h.k;
+    bytes[28..].copy_from_slice(&h.seconds.to_le_bytes());
+    bytes
 }
 
 pub fn head_in(w: [u8; 32]) -> Head
     ensures { result ≡ head_in w }
 {
-    let seconds = word_of(w[28], w[29], w[30], w[31]);
     Head {
         k: w[0],
-        seconds: seconds,
+        seconds: word_of(w[28], w[29], w[30], w[31]),
     }
 }
 
 pub fn align_bytes(a: Alignment) -> [u8; 32]
     ensures { result ≡ align_bytes a }
 {
-    [
-        a.framing.inframe as u8,
-        a.framing.seen as u8,
+    let mut bytes = [0; 32];
+    bytes[..8].copy_from_slice(&[
+        u8::from(a.framing.inframe),
+        u8::from(a.framing.seen),
         (a.framing.misses % 256) as u8,
-        a.multi.inmulti as u8,
+        u8::from(a.multi.inmulti),
         a.multi.number,
         (a.multi.misses % 256) as u8,
-        a.multi.known as u8,
+        u8::from(a.multi.known),
         a.multi.previous,
-        0,
-        0,
-        0,
-        0,
-        0,
-        0,
-        0,
-        0,
-        0,
-        0,
-        0,
-        0,
-        (a.lof.total % 256) as u8,
-        (a.lof.total / 256 % 256) as u8,
-        (a.lof.total / 65536 % 256) as u8,
-        (a.lof.total / 16777216 % 256) as u8,
-        (a.lof.good % 256) as u8,
-        (a.lof.good / 256 % 256) as u8,
-        (a.lof.good / 65536 % 256) as u8,
-        (a.lof.good / 16777216 % 256) as u8,
-        (a.lom % 256) as u8,
-        (a.lom / 256 % 256) as u8,
-        (a.lom / 65536 % 256) as u8,
-        (a.lom / 16777216 % 256) as u8,
-    ]
+    ]);
+    bytes[20..24].copy_from_slice(&a.lof.total.to_le_bytes());
+    bytes[24..28].copy_from_slice(&a.lof.good.to_le_bytes());
+    bytes[28..].copy_from_slice(&a.lom.to_le_bytes());
+    bytes
 }
 
 pub fn align_in(w: [u8; 32]) -> Alignment
     ensures { result ≡ align_in w }
 {
-    let misses = w[2] as u32;
-    let mismatches = w[5] as u32;
-    let total = word_of(w[20], w[21], w[22], w[23]);
-    let good = word_of(w[24], w[25], w[26], w[27]);
-    let lom = word_of(w[28], w[29], w[30], w[31]);
     Alignment {
         framing: Framing {
             inframe: w[0] == 1,
             seen: w[1] == 1,
-            misses: misses,
+            misses: u32::from(w[2]),
         },
         lof: Lof {
-            total: total,
-            good: good,
+            total: word_of(w[20], w[21], w[22], w[23]),
+            good: word_of(w[24], w[25], w[26], w[27]),
         },
         multi: Multi {
             inmulti: w[3] == 1,
             number: w[4],
-            misses: mismatches,
+            misses: u32::from(w[5]),
             known: w[6] == 1,
             previous: w[7],
         },
-        lom: lom,
+        lom: word_of(w[28], w[29], w[30], w[31]),
     }
 }
 
 pub fn front_bytes(f: Front) -> [u8; 32]
     ensures { result ≡ front_bytes f }
 {
-    [
-        (f.thr % 256) as u8,
-        (f.thr / 256 % 256) as u8,
-        (f.thr / 65536 % 256) as u8,
-        (f.thr / 16777216 % 256) as u8,
+    let mut bytes = [0; 32];
+    bytes[..4].copy_from_slice(&f.thr.to_le_bytes());
+    bytes[4..9].copy_from_slice(&[
         (f.degm % 256) as u8,
         f.mode,
-        f.disabled as u8,
-        f.deg.on as u8,
+        u8::from(f.disabled),
+        u8::from(f.deg.on),
         (f.deg.run % 256) as u8,
-        0,
-        0,
-        0,
-        0,
-        0,
-        0,
-        0,
-        0,
-        0,
-        0,
-        0,
-        0,
-        0,
-        0,
-        0,
-        0,
-        0,
-        0,
-        0,
-        0,
-        0,
-        0,
-        0,
-    ]
+    ]);
+    bytes
 }
 
 pub fn front_in(w: [u8; 32]) -> Front
     ensures { result ≡ front_in w }
 {
-    let thr = word_of(w[0], w[1], w[2], w[3]);
-    let degm = w[4] as u32;
-    let run = w[8] as u32;
     Front {
-        thr: thr,
-        degm: degm,
+        thr: word_of(w[0], w[1], w[2], w[3]),
+        degm: u32::from(w[4]),
         mode: w[5],
         disabled: w[6] == 1,
         deg: Filter {
             on: w[7] == 1,
-            run: run,
+            run: u32::from(w[8]),
         },
     }
 }
@@ -220,92 +139,70 @@ pub fn front_in(w: [u8; 32]) -> Front
 pub fn state_bytes(s: State) -> [u8; 32]
     ensures { result ≡ state_bytes s }
 {
-    let sum = s.blocks.sum.0;
-    let near = s.blocks.near.0;
-    let far = s.blocks.far.0;
-    [
-        s.known as u8,
-        s.gathering as u8,
+    let mut bytes = [0; 32];
+    bytes[..17].copy_from_slice(&[
+        u8::from(s.known),
+        u8::from(s.gathering),
         (s.equal % 256) as u8,
-        s.bdi.on as u8,
+        u8::from(s.bdi.on),
         (s.bdi.run % 256) as u8,
-        s.iae.on as u8,
+        u8::from(s.iae.on),
         (s.iae.run % 256) as u8,
-        s.biae.on as u8,
+        u8::from(s.biae.on),
         (s.biae.run % 256) as u8,
         s.stat.value,
         (s.stat.run % 256) as u8,
-        s.stat.known as u8,
+        u8::from(s.stat.known),
         s.stat.accepted,
-        s.blocks.neards as u8,
-        s.blocks.fards as u8,
-        s.iaeseen as u8,
-        s.biaeseen as u8,
-        0,
-        0,
-        0,
-        (sum % 256) as u8,
-        (sum / 256 % 256) as u8,
-        (sum / 65536 % 256) as u8,
-        (sum / 16777216 % 256) as u8,
-        (near % 256) as u8,
-        (near / 256 % 256) as u8,
-        (near / 65536 % 256) as u8,
-        (near / 16777216 % 256) as u8,
-        (far % 256) as u8,
-        (far / 256 % 256) as u8,
-        (far / 65536 % 256) as u8,
-        (far / 16777216 % 256) as u8,
-    ]
+        u8::from(s.blocks.neards),
+        u8::from(s.blocks.fards),
+        u8::from(s.iaeseen),
+        u8::from(s.biaeseen),
+    ]);
+    bytes[20..24].copy_from_slice(&s.blocks.sum.0.to_le_bytes());
+    bytes[24..28].copy_from_slice(&s.blocks.near.0.to_le_bytes());
+    bytes[28..].copy_from_slice(&s.blocks.far.0.to_le_bytes());
+    bytes
 }
 
-fn blocks_of(w: [u8; 32]) -> Blocks
-    ensures { result ≡ blocks_in w }
+fn blocks_of(w: &[u8; 32]) -> Blocks
+    ensures { result ≡ blocks_in w.now }
 {
-    let sum = word_of(w[20], w[21], w[22], w[23]);
-    let near = word_of(w[24], w[25], w[26], w[27]);
-    let far = word_of(w[28], w[29], w[30], w[31]);
     Blocks {
-        near: Near(near),
-        far: Far(far),
+        near: Near(word_of(w[24], w[25], w[26], w[27])),
+        far: Far(word_of(w[28], w[29], w[30], w[31])),
         neards: w[13] == 1,
         fards: w[14] == 1,
-        sum: Sum(sum),
+        sum: Sum(word_of(w[20], w[21], w[22], w[23])),
     }
 }
 
 pub fn state_in(w: [u8; 32]) -> State
     ensures { result ≡ state_in w }
 {
-    let equal = w[2] as u32;
-    let bdi = w[4] as u32;
-    let iae = w[6] as u32;
-    let biae = w[8] as u32;
-    let stat = w[10] as u32;
-    let blocks = blocks_of(w);
     State {
         known: w[0] == 1,
         gathering: w[1] == 1,
-        equal: equal,
+        equal: u32::from(w[2]),
         bdi: Filter {
             on: w[3] == 1,
-            run: bdi,
+            run: u32::from(w[4]),
         },
         iae: Filter {
             on: w[5] == 1,
-            run: iae,
+            run: u32::from(w[6]),
         },
         biae: Filter {
             on: w[7] == 1,
-            run: biae,
+            run: u32::from(w[8]),
         },
         stat: Stat {
             value: w[9],
-            run: stat,
+            run: u32::from(w[10]),
             known: w[11] == 1,
             accepted: w[12],
         },
-        blocks: blocks,
+        blocks: blocks_of(&w),
         iaeseen: w[15] == 1,
         biaeseen: w[16] == 1,
     }

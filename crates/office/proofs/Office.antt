@@ -22,7 +22,7 @@ use Rattle.record.specs.Record.{record_of, records_of, size_of, frames_in}
 use Rattle.record.specs.declared.Record.{Record}
 use Rattle.trace.specs.Scan.{start_of, taken_of}
 use Rattle.trace.specs.declared.State.{State}
-use Rattle.trace.specs.declared.Taken.{Taken}
+use Rattle.trace.specs.Scan.{Taken}
 use Rattle.bins.specs.Bins.{no_bins, rest_lines}
 use Rattle.bins.specs.declared.Bins.{Bins}
 use Rattle.stream.specs.Stream.{Note, second, last_listed, pending_listed, listed_in, Scan, before, stopped, noted, scan_over, scan_of}

@@ -8,9 +8,8 @@ use lib.Dec.{ltb}
 use lib.ListN.{length, get_or, take, drop, length-drop, drop_of_length-le}
 use lib.Seq.{length-take-le, take-suc, drop-append-le, take-length}
 use borrow.Author.Tests.{eqb-true, eqb-false, lt-ltb}
-use Rattle.summary.specs.Summary.{empty_summary, join_of, second_of}
+use Rattle.summary.specs.Summary.{Joined, empty_summary, join_of, second_of}
 use Rattle.summary.specs.declared.Summary.{Summary}
-use Rattle.summary.specs.declared.Joined.{Joined}
 use Rattle.summary.specs.Stretch.{total, seconds_with, summary_of, Numbered}
 use Rattle.summary.proofs.Stretch.{neighbours}
 use Rattle.bins.specs.Bins.{no_bins, bins_with, opened_of, closes, kept_of, line_if, bin_lines, closed_lines, rest_lines}

@@ -7,9 +7,8 @@ use lib.Dec.{leb, eqb}
 use borrow.Author.Tests.{leb-true, eqb-true}
 use Rattle.answer.specs.Bits.{flag}
 use Rattle.overhead.specs.Overhead.{far_block}
-use Rattle.overhead.specs.Bei.{path_bei, bei_of, is_far, violations_of, is_biae, BeiCodes, SameFar, EverySameFar}
-use Rattle.overhead.specs.declared.Bei.{Bei}
-use Rattle.overhead.specs.declared.Bei.TheVariants.{None, Number, Biae}
+use Rattle.overhead.specs.Bei.{path_bei, bei_of, is_far, violations_of, is_biae, BeiCodes, EverySameFar}
+use Rattle.overhead.specs.declared.Bei.TheVariants.{None, Number}
 
 pub bei_codes : BeiCodes
 unfolding far_block path_bei bei_of

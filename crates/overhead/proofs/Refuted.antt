@@ -12,8 +12,7 @@ use Rattle.answer.specs.Answer.{NoAnswer}
 use Rattle.overhead.specs.declared.Field.{Field}
 use Rattle.overhead.specs.declared.Overhead.{Overhead}
 use Rattle.overhead.specs.Overhead.{three_of, four_of, field_of, overhead_of, level_field, far_block}
-use Rattle.overhead.specs.Bei.{path_bei, bei_of, is_far, violations_of, is_biae}
-use Rattle.overhead.specs.declared.Bei.{Bei}
+use Rattle.overhead.specs.Bei.{path_bei, bei_of, is_far, is_biae}
 use Rattle.overhead.specs.declared.Bei.TheVariants.{None, Number, Biae}
 use Rattle.overhead.proofs.overhead_of.Kinds as overhead_kinds
 use Rattle.overhead.proofs.overhead_of.Reads as overhead_reads

@@ -6,7 +6,7 @@ ghost use Rattle.overhead.specs.Overhead.{four_of, three_of, field_of, overhead_
 ghost use Rattle.overhead.specs.Bei.{bei_of, path_bei, is_far, violations_of, is_biae};
 
 // The three bytes of SM, PM or a tandem level as far as they are looked at. The section looks at `iae`, path and levels at `stat`.
-#[derive(Clone, Copy)]
+#[derive(Clone, Copy, Default)]
 pub struct Field {
     pub tti: u8,
     pub bei: u8,
@@ -29,10 +29,7 @@ pub struct Overhead {
 fn byte_at(bytes: &[u8], at: usize) -> u8
     ensures { result ≡ get_or bytes.now at 0 }
 {
-    if at < bytes.len() {
-        return bytes[at];
-    }
-    0
+    bytes.get(at).copied().unwrap_or(0)
 }
 
 // Columns 3 to 5 of row 1 are F6 28 28.
@@ -40,10 +37,7 @@ fn byte_at(bytes: &[u8], at: usize) -> u8
 fn three_of(bytes: &[u8]) -> bool
     ensures { result ≡ three_of bytes.now }
 {
-    let c = byte_at(bytes, 2);
-    let d = byte_at(bytes, 3);
-    let e = byte_at(bytes, 4);
-    (c == 0xF6) & (d == 0x28) & (e == 0x28)
+    (byte_at(bytes, 2) == 0xF6) & (byte_at(bytes, 3) == 0x28) & (byte_at(bytes, 4) == 0x28)
 }
 
 // Columns 2 to 5 of row 1 are F6 F6 28 28.
@@ -51,9 +45,7 @@ fn three_of(bytes: &[u8]) -> bool
 fn four_of(bytes: &[u8]) -> bool
     ensures { result ≡ four_of bytes.now }
 {
-    let b = byte_at(bytes, 1);
-    let three = three_of(bytes);
-    (b == 0xF6) & three
+    (byte_at(bytes, 1) == 0xF6) & three_of(bytes)
 }
 
 // The field whose TTI byte stands at `at`; its status byte is two columns further.
@@ -61,10 +53,9 @@ fn four_of(bytes: &[u8]) -> bool
 fn field_of(bytes: &[u8], tti: usize, status: usize) -> Field
     ensures { result ≡ field_of (get_or bytes.now tti 0) (get_or bytes.now status 0) }
 {
-    let t = byte_at(bytes, tti);
     let s = byte_at(bytes, status);
     Field {
-        tti: t,
+        tti: byte_at(bytes, tti),
         bei: s / 16,
         bdi: s / 8 % 2 == 1,
         iae: s / 4 % 2 == 1,
@@ -77,17 +68,12 @@ fn field_of(bytes: &[u8], tti: usize, status: usize) -> Field
 pub fn overhead_of(bytes: &[u8]) -> Overhead
     ensures { result ≡ overhead_of bytes.now }
 {
-    let four = four_of(bytes);
-    let three = three_of(bytes);
-    let mfas = byte_at(bytes, 6);
-    let section = field_of(bytes, 7, 9);
-    let path = field_of(bytes, 41, 43);
     Overhead {
-        four: four,
-        three: three,
-        mfas: mfas,
-        section: section,
-        path: path,
+        four: four_of(bytes),
+        three: three_of(bytes),
+        mfas: byte_at(bytes, 6),
+        section: field_of(bytes, 7, 9),
+        path: field_of(bytes, 41, 43),
     }
 }
 
@@ -103,33 +89,28 @@ pub fn level_field(bytes: &[u8], level: u8) -> Field
         4 => field_of(bytes, 26, 28),
         5 => field_of(bytes, 23, 25),
         6 => field_of(bytes, 20, 22),
-        _ => Field {
-            tti: 0,
-            bei: 0,
-            bdi: false,
-            iae: false,
-            stat: 0,
-        },
+        _ => Field::default(),
     }
 }
 
 // What a BEI code says: nothing, so many violations (1 to 8), or the mark of an alignment error that the far end has met.
-#[derive(Clone, Copy)]
+#[derive(Clone, Copy, Debug, PartialEq, Eq)]
 pub enum Bei {
     None,
     Number(u8),
     Biae,
 }
 
-// The BEI reading of the section and of a tandem level.
+// The BEI reading of the section and of a tandem level. No `From<u8>`: a byte has two readings, this one and the path's.
 #[tactic(auto, unfolding(crate::specs::Bei::bei_of))]
 pub fn bei_of(code: u8) -> Bei
     ensures { result ≡ bei_of code }
 {
     if code == 11 {
-        return Bei::Biae;
+        Bei::Biae
+    } else {
+        path_bei(code)
     }
-    path_bei(code)
 }
 
 // The BEI reading of the path, where 1011 is none.
@@ -137,21 +118,17 @@ pub fn bei_of(code: u8) -> Bei
 pub fn path_bei(code: u8) -> Bei
     ensures { result ≡ path_bei code }
 {
-    if (1 <= code) & (code <= 8) {
-        return Bei::Number(code);
+    match code {
+        1..=8 => Bei::Number(code),
+        _ => Bei::None,
     }
-    Bei::None
 }
 
 // Whether it tells of a far-end errored block.
 pub fn is_far(b: Bei) -> bool
     ensures { result ≡ is_far b }
 {
-    match b {
-        Bei::None => false,
-        Bei::Number(_) => true,
-        Bei::Biae => false,
-    }
+    matches!(b, Bei::Number(_))
 }
 
 // How many violations it tells of.
@@ -159,9 +136,8 @@ pub fn violations(b: Bei) -> u8
     ensures { result ≡ violations_of b }
 {
     match b {
-        Bei::None => 0,
         Bei::Number(n) => n,
-        Bei::Biae => 0,
+        Bei::None | Bei::Biae => 0,
     }
 }
 
@@ -169,9 +145,5 @@ pub fn violations(b: Bei) -> u8
 pub fn is_mark(b: Bei) -> bool
     ensures { result ≡ is_biae b }
 {
-    match b {
-        Bei::None => false,
-        Bei::Number(_) => false,
-        Bei::Biae => true,
-    }
+    matches!(b, Bei::Biae)
 }

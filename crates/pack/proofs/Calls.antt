@@ -7,13 +7,15 @@ use native.Mathlib.Omega.{arith}
 use lib.Dec.{eqb}
 use lib.ListN.{length}
 use borrow.Author.Tests.{ne_eqb, eqb-true, le-leb, lt-leb}
+use Rattle.answer.specs.declared.Refusal.{Refusal}
+use Rattle.answer.specs.Refusal.{number_of}
 use Rattle.answer.proofs.Cond.{by_cond, and_left, and_right}
+use Rattle.answer.proofs.Numbers.{number_above}
 use Rattle.codec.specs.Over.{poured}
 use Rattle.words.specs.Words.{words_in, numbers_in}
 use Rattle.words.proofs.Words.{words_room, numbers_room}
-use Rattle.summary.specs.Summary.{valid_of, join_refusal, join_of, added_of, second_of, summary_by}
+use Rattle.summary.specs.Summary.{valid_of, join_refusal, Joined, join_of, added_of, second_of, summary_by}
 use Rattle.summary.specs.declared.Summary.{Summary}
-use Rattle.summary.specs.declared.Joined.{Joined}
 use Rattle.pack.specs.Pack.{summary_bytes, summary_from, recorded_of, summary_refusal, summary_out, SummaryCall, joined_refusal, joined_out, JoinCall}
 
 -- otn_summary
@@ -58,8 +60,8 @@ module _ (a b out : List ℕ) where
       let r : joined_refusal a b ≡ 26 = by_lengths (eqb (length a) 184) (eqb (length b) 184) refl refl e in
       record { answers = sym r; fills = rw r }
 
-  module _ (x y : List ℕ) (s t : Summary) (j : Joined) (e : (eqb (length a) 184 && eqb (length b) 184) ≡ true) (p : x ≡ numbers_in 23 a) (q : y ≡ numbers_in 23 b)
-      (u : s ≡ summary_by x) (v : t ≡ summary_by y) (w : j ≡ join_of s t) where
+  module _ (x y : List ℕ) (s t : Summary) (e : (eqb (length a) 184 && eqb (length b) 184) ≡ true) (p : x ≡ numbers_in 23 a) (q : y ≡ numbers_in 23 b)
+      (u : s ≡ summary_by x) (v : t ≡ summary_by y) where
     left : eqb (length a) 184 ≡ true
     left = and_left (eqb (length a) 184) (eqb (length b) 184) e
 
@@ -70,31 +72,33 @@ module _ (a b out : List ℕ) where
     unfolding summary_from
     from l n z k m o = let h : length l ≡ 184 = eqb-true (length l) 184 k in o ∙ ap summary_by (m ∙ numbers_room 23 l (omega arith))
 
-    both : j ≡ join_of (summary_from a) (summary_from b)
-    both = w ∙ rw (from a x s left p u, from b y t right q v)
+    both : join_of s t ≡ join_of (summary_from a) (summary_from b)
+    both = rw (from a x s left p u, from b y t right q v) refl
 
     refusal : joined_refusal a b ≡ join_refusal (summary_from a) (summary_from b)
     unfolding joined_refusal join_refusal
     refusal = rw (left, right)
 
-    number : j.refusal ≡ joined_refusal a b
+    number : (join_of s t).refusal ≡ joined_refusal a b
     unfolding join_of
     number =
         let n : ℕ = join_refusal (summary_from a) (summary_from b) in
         rw both (by_cond (λ (z : Joined). z.refusal ≡ n) (eqb n 0) (λ k. sym (eqb-true n 0 k)) (λ _. refl)) ∙ sym refusal
 
-    sum : j.refusal ≡ 0 → j.summary ≡ added_of (summary_from a) (summary_from b)
+    sum : (join_of s t).refusal ≡ 0 → (join_of s t).summary ≡ added_of (summary_from a) (summary_from b)
     unfolding join_of
     sum z = rw (both, sym refusal ∙ sym number ∙ z)
 
-    pub joined : (filled : List ℕ) → j.refusal ≡ 0 → filled ≡ poured out (summary_bytes j.summary) → JoinCall a b out 0 filled
+    pub joined : (filled : List ℕ) (k : Summary) → 0 ≡ (join_of s t).refusal → k ≡ (join_of s t).summary → filled ≡ poured out (summary_bytes k)
+        → JoinCall a b out 0 filled
     unfolding joined_out
-    joined filled z f =
-        let r : joined_refusal a b ≡ 0 = sym number ∙ z in
-        record { answers = sym r; fills = rw r (f ∙ ap (λ (k : Summary). poured out (summary_bytes k)) (sum z)) }
+    joined filled k z m f =
+        let r : joined_refusal a b ≡ 0 = sym number ∙ sym z in
+        record { answers = sym r; fills = rw r (f ∙ ap (λ (c : Summary). poured out (summary_bytes c)) (m ∙ sum (sym z))) }
 
-    pub refused : (r : ℕ) → (j.refusal ≡ 0 → ⊥) → r ≡ j.refusal → JoinCall a b out r out
+    pub refused : (d : Refusal) (r : ℕ) → number_of d ≡ (join_of s t).refusal → r ≡ number_of d → JoinCall a b out r out
     unfolding joined_out
-    refused r z k =
-        let n : joined_refusal a b ≡ 0 → ⊥ = λ m. z (number ∙ m) in
-        record { answers = k ∙ number; fills = rw (ne_eqb (joined_refusal a b) 0 n) }
+    refused d r z k =
+        let h : 0 < number_of d = number_above d in
+        let n : joined_refusal a b ≡ 0 → ⊥ = λ m. omega (arith, h, z ∙ number ∙ m) in
+        record { answers = k ∙ z ∙ number; fills = rw (ne_eqb (joined_refusal a b) 0 n) }

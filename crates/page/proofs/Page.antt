@@ -22,10 +22,8 @@ use Rattle.causes.specs.declared.Standing.{Standing}
 use Rattle.second.specs.Second.{closed_of, figures_of}
 use Rattle.settings.specs.Ranges.{SettingsIn}
 use Rattle.settings.specs.declared.Settings.{Settings}
-use Rattle.supervisor.specs.Supervisor.{fresh_of, step_of, mark_of, layer_at, trace_refusal, traced_of}
+use Rattle.supervisor.specs.Supervisor.{Stepped, Marked, fresh_of, step_of, mark_of, layer_at, trace_refusal, traced_of}
 use Rattle.supervisor.specs.declared.Supervisor.{Supervisor}
-use Rattle.supervisor.specs.declared.Stepped.{Stepped}
-use Rattle.supervisor.specs.declared.Marked.{Marked}
 use Rattle.history.specs.History.{Frame, Event, frame, mark, stands_at, refusal_of, Accepted, Call, does, reads, Answer, stepped, marked, answer_of}
 use Rattle.page.specs.Page.{each, frames_back, signs, in_frame, look, place, section_bdi_bit, path_bdi_bit, iae_bit, biae_bit, section_bads, path_bads, report}
 use Rattle.page.specs.Page.{trace_of_layer, answer, EveryPage, Acceptance, EveryStands}

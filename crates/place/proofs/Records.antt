@@ -19,9 +19,11 @@ use Rattle.signal.specs.declared.Signal.{Signal}
 use Rattle.signal.specs.declared.Raised.{Raised}
 use Rattle.signal.specs.Signal.{stands_for, raised_of}
 use Rattle.causes.specs.declared.SectionStands.{SectionStands}
+use Rattle.fields.specs.Fields.{stat_at}
+use Rattle.fields.proofs.Parts.{stat_in}
 use Rattle.place.specs.declared.PathFrame.{PathFrame}
 use Rattle.place.specs.declared.Filtered.{Filtered}
-use Rattle.cycle.specs.declared.Cycle.{Cycle}
+use Rattle.layer.specs.declared.Cycle.{Cycle}
 use Rattle.cycle.specs.Cycle.{cycle_in, cycle_of, traces_of, record_parts, layer_step, tim_after}
 use Rattle.place.specs.Place.{section_filters, section_numbers, section_stood, section_record, path_stat, path_forgets, path_bdi_at, path_numbers, path_frame, path_stood, path_record}
 use Rattle.cycle.proofs.Parts.{lent, back}
@@ -52,9 +54,8 @@ module _ (b0 b1 x : List ℕ) (d : Filtered) (tim ssf : Bool) (m : Multi) (f : F
       (rw (gd, et), n.1 ∙ rw gx)
 
 -- the path's record
-module _ (b0 b1 x : List ℕ) (bdi : Filter) (t : Stat) (s : Signal) (q : Raised) (tim ssf : Bool) (run : ℕ) (m : Multi) (f : Field) (pm : ℕ) (h : length b0 ≡ 288) where
-  pub path_is : run ≡ get_or b0 42 0
-      → t ≡ stat_of (record { value = get_or b0 41 0; run = run; known = eqb (get_or b0 43 0) 1; accepted = get_or b0 44 0 }) ssf f.stat
+module _ (b0 b1 x : List ℕ) (bdi : Filter) (t : Stat) (s : Signal) (q : Raised) (tim ssf : Bool) (r : Stat) (m : Multi) (f : Field) (pm : ℕ) (h : length b0 ≡ 288) where
+  pub path_is : r ≡ stat_at (bytes_in 4 41 b0) 0 → t ≡ stat_of r ssf f.stat
       → s ≡ stands_for t → q ≡ raised_of (stands_for t) → tim ≡ tim_after b0 (ssf || q.ais) m f.tti
       → b1 ≡ joined (record_parts b0 (cycle_of (layer_step b0 (ssf || q.ais) m f.tti)) (bytes_in 29 35 b0) (traces_of (layer_step b0 (ssf || q.ais) m f.tti)))
       → bdi ≡ path_bdi_at (bytes_in 2 0 (take 29 (drop 35 b1))) (ssf || q.ais) f
@@ -63,7 +64,7 @@ module _ (b0 b1 x : List ℕ) (bdi : Filter) (t : Stat) (s : Signal) (q : Raised
       × (take 35 b1 ++ (x ++ drop 29 (drop 35 b1)) ≡ path_record b0 ssf m f pm)
   unfolding path_record
   path_is er es eg eq et e ed ex =
-      let g : t ≡ path_stat b0 ssf f = rw er at es in
+      let g : t ≡ path_stat b0 ssf f = rw (er ∙ stat_in b0 41 (omega (arith, h))) at es in
       let gs : s ≡ stands_for (path_stat b0 ssf f) = rw g at eg in
       let gq : q ≡ raised_of (stands_for (path_stat b0 ssf f)) = rw g at eq in
       let forget : Bool = path_forgets ssf (path_stat b0 ssf f) in

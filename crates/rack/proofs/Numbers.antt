@@ -18,8 +18,7 @@ use Rattle.filter.specs.declared.Stat.{Stat}
 use Rattle.cycle.proofs.Parts.{parted, parted_sized, parted_joined, lent, back, sized_back}
 use Rattle.fields.specs.Fields.{filter_bytes, FilterStep, stat_bytes, stat_laid, flags_laid, counts_in}
 use Rattle.fields.proofs.Parts.{sized_so, filter_stepped}
-use Rattle.rack.specs.declared.Filters.{Filters}
-use Rattle.rack.specs.Rack.{filters_in, level_numbers}
+use Rattle.rack.specs.Rack.{Filters, filters_in, level_numbers}
 
 module _ (w0 x1 x2 x3 x4 x5 : List ℕ) (bdi biae : Filter) (t : Stat) (read : Bei) (far mark forget stops tim iae : Bool) (f : Field) (more violations : ℕ) (h : length w0 ≡ 29) where
   abbrev w1 : List ℕ

@@ -3,6 +3,7 @@ use Prim.Native.Nat.{ℕ}
 use mathlib.Core.Path.{◌≡◌, ◌∙◌}
 use mathlib.Core.Bool.{Bool, ◌&&◌, ◌||◌, not}
 use mathlib.Core.List.{List, ◌++◌}
+use native.Mathlib.Omega.{arith}
 use lib.Dec.{eqb}
 use lib.ListN.{length, get_or, take, drop}
 use Rattle.codec.specs.Over.{bytes_in}
@@ -19,10 +20,11 @@ use Rattle.level.specs.Status.{status_for, raises_of}
 use Rattle.cycle.specs.Cycle.{cycle_in, cycle_of, traces_of, record_parts, layer_step, tim_after}
 use Rattle.cycle.proofs.Cycles.{cycle_long}
 use Rattle.place.proofs.Records.{numbers_is}
-use Rattle.rack.specs.declared.Filters.{Filters}
-use Rattle.rack.specs.Rack.{stat_in, forgets, filters_in, level_numbers, level_stood, level_record}
+use Rattle.fields.specs.Fields.{stat_at}
+use Rattle.fields.proofs.Parts.{stat_in as stat_read}
+use Rattle.rack.specs.Rack.{Filters, stat_in, forgets, filters_in, level_numbers, level_stood, level_record}
 
-module _ (b0 b1 x : List ℕ) (d : Filters) (t : Stat) (s : Status) (q : Raises) (tim ssf : Bool) (run : ℕ) (m : Multi) (f : Field) (violations : ℕ) (h : length b0 ≡ 288) where
+module _ (b0 b1 x : List ℕ) (d : Filters) (t : Stat) (s : Status) (q : Raises) (tim ssf : Bool) (r : Stat) (m : Multi) (f : Field) (violations : ℕ) (h : length b0 ≡ 288) where
   abbrev stops : Bool
   stops = ssf || q.ais || q.ltc || q.oci || q.lck
 
@@ -38,8 +40,7 @@ module _ (b0 b1 x : List ℕ) (d : Filters) (t : Stat) (s : Status) (q : Raises)
     deg = eqb (get_or b0 7 0) 1;
   }
 
-  pub level_is : run ≡ get_or b0 42 0
-      → t ≡ stat_of (record { value = get_or b0 41 0; run = run; known = eqb (get_or b0 43 0) 1; accepted = get_or b0 44 0 }) ssf f.stat
+  pub level_is : r ≡ stat_at (bytes_in 4 41 b0) 0 → t ≡ stat_of r ssf f.stat
       → s ≡ status_for t → q ≡ raises_of s → tim ≡ tim_after b0 (ssf || q.ais) m f.tti
       → b1 ≡ joined (record_parts b0 (cycle_of (layer_step b0 (ssf || q.ais) m f.tti)) (bytes_in 29 35 b0) (traces_of (layer_step b0 (ssf || q.ais) m f.tti)))
       → d ≡ filters_in (take 29 (drop 35 b1)) (ssf || q.ais) tim f
@@ -47,7 +48,7 @@ module _ (b0 b1 x : List ℕ) (d : Filters) (t : Stat) (s : Status) (q : Raises)
       → (stood ≡ level_stood b0 ssf m f) × (take 35 b1 ++ (x ++ drop 29 (drop 35 b1)) ≡ level_record b0 ssf m f violations)
   unfolding level_record
   level_is er es eg eq et e ed ex =
-      let g : t ≡ stat_in b0 ssf f = rw er at es in
+      let g : t ≡ stat_in b0 ssf f = rw (er ∙ stat_read b0 41 (omega (arith, h))) at es in
       let gs : s ≡ status_for (stat_in b0 ssf f) = rw g at eg in
       let gq : q ≡ raises_of (status_for (stat_in b0 ssf f)) = rw gs at eq in
       let forget : Bool = forgets ssf (stat_in b0 ssf f) in

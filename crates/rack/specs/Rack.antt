@@ -7,6 +7,7 @@ use Rattle.overhead.specs.Bei.{bei_of, is_far, is_biae}
 use Rattle.overhead.specs.declared.Field.{Field}
 use Rattle.filter.specs.Filter.{quiet, filter_of}
 use Rattle.filter.specs.Stat.{stat_of}
+use Rattle.filter.specs.declared.Filter.{Filter}
 use Rattle.filter.specs.declared.Stat.{Stat}
 use Rattle.alignment.specs.declared.Multi.{Multi}
 use Rattle.settings.specs.declared.Options.{Options}
@@ -22,7 +23,6 @@ use Rattle.numbers.specs.Held.{Held, layer_from, held_of}
 use Rattle.cycle.specs.Cycle.{cycle_of, traces_of, record_parts, layer_step, tim_after, whole}
 use Rattle.ranges.specs.Sound.{layer_greatest, layer_ranged}
 use Rattle.fields.specs.Fields.{filter_at, filter_bytes, stat_at, stat_bytes, flags_in, counts_in}
-use Rattle.rack.specs.declared.Filters.{Filters}
 
 -- The record of a level: dIAE is of its STAT, so the filter of a section's dIAE has none.
 
@@ -52,7 +52,11 @@ stops_in ssf t = ssf || raises_ais (status_for t) || raises_ltc (status_for t) |
 abbrev pub iae_in : Stat → Bool → Bool
 iae_in t tim = raises_iae (status_for t) && not tim
 
--- the filters in the 29 bytes of a level's other numbers
+-- the filters in the 29 bytes of a level's other numbers: a level has no filter of dIAE
+pub record Filters : Type 0 where
+  pub bdi : Filter
+  pub biae : Filter
+
 abbrev pub filters_in : List ℕ → Bool → Bool → Field → Filters
 filters_in w forget tim f = record {
   bdi = filter_of (filter_at (bytes_in 2 0 w) 0) 5 forget f.bdi;

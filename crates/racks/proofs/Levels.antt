@@ -38,8 +38,7 @@ use Rattle.fields.specs.Fields.{filter_bytes, stat_bytes, raised, counts_in}
 use Rattle.records.proofs.Held.{filter_back, stat_back, before_rest, others, long, front_part, others_part, names_part, quieted, step_is, tim_is, layer_is}
 use Rattle.records.proofs.Layers.{lasts, lasts_is}
 use Rattle.records.proofs.Marks.{closes}
-use Rattle.rack.specs.declared.Filters.{Filters}
-use Rattle.rack.specs.Rack.{level_held, stat_in, forgets, stops_in, iae_in, filters_in, level_numbers, level_stood, level_record, LevelAt}
+use Rattle.rack.specs.Rack.{Filters, level_held, stat_in, forgets, stops_in, iae_in, filters_in, level_numbers, level_stood, level_record, LevelAt}
 use Rattle.racks.specs.Racks.{LevelIn, InLevel}
 
 module _ (h : Held) (z : Sizes h) (fits : StateFits h.state) where

@@ -27,12 +27,6 @@ line_ranged w c =
     below line_greatest w && (leb 1 (get_or w 0 0)
     && (leb (word_at w 52) 989 && (leb (word_at w 56) 989 && (leb (word_at w 60) 989 && counts_ranged c))))
 
--- the same, with the single numbers read from the two strips of w: the head h and alignment a
-unfoldable pub line_ranged_by : List ℕ → List ℕ → List ℕ → List ℕ → Bool
-line_ranged_by w h a c =
-    below line_greatest w && (leb 1 (get_or h 0 0)
-    && (leb (word_at a 20) 989 && (leb (word_at a 24) 989 && (leb (word_at a 28) 989 && counts_ranged c))))
-
 -- A layer: its front (DEGThr, DEGM, trace mode, TIM action disabled, dDEG and its run), then its state. A section has no STAT, a path
 -- no dIAE and no dBIAE: their bytes are spare there. The state's last three words are the sum, near and far blocks.
 abbrev pub layer_greatest : List ℕ → List ℕ → List ℕ
@@ -51,13 +45,6 @@ layer_ranged greatest w =
     below greatest w && (leb 2 (get_or w 4 0)
     && (leb 1 (word_at w 0)
     && (leb (word_at w 0) 329492 && (leb (word_at w 52) 3200000 && (leb (word_at w 56) 400000 && leb (word_at w 60) 400000)))))
-
--- the same, with the single numbers read from the two strips of w: the front f and the state s
-unfoldable pub layer_ranged_by : List ℕ → List ℕ → List ℕ → List ℕ → Bool
-layer_ranged_by greatest w f s =
-    below greatest w && (leb 2 (get_or f 4 0)
-    && (leb 1 (word_at f 0)
-    && (leb (word_at f 0) 329492 && (leb (word_at s 20) 3200000 && (leb (word_at s 24) 400000 && leb (word_at s 28) 400000)))))
 
 -- refusal 17: "handed-in supervisor has a wrong length or a number beyond its range". The bytes of the twelve words are bytes too.
 unfoldable pub sound : List ℕ → Bool

@@ -1,4 +1,3 @@
-pub mod Shifts
 pub mod Lines
 pub mod Turns
 pub mod Refills

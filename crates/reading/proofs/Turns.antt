@@ -1,53 +1,73 @@
 -- The laws of a turn, and the law of reading in pieces. Assumes nothing.
 use Prim.Native.Nat.{ℕ, ◌+◌, ◌-◌, ◌≤◌, ◌<◌}
-use mathlib.Core.Path.{◌≡◌, refl, ◌∙◌, ap, sym, subst⁻¹}
+use mathlib.Core.Path.{◌≡◌, refl, ◌∙◌, ap, sym}
 use mathlib.Core.Bool.{Bool, true, false, cond, not, ◌||◌}
 use mathlib.Core.List.{List, [], ◌∷◌, ◌++◌, append_assoc, append-nil}
 use native.Mathlib.Omega.{arith}
 use lib.Dec.{eqb}
-use lib.ListN.{length, drop, length-append, length-drop}
+use lib.ListN.{length, drop, length-drop}
 use borrow.Author.Tests.{eqb-true, eqb-false}
-use Rattle.answer.specs.Over.{over}
-use Rattle.listing.specs.Text.{fitted}
-use Rattle.listing.proofs.Overs.{then, fitted_is}
-use Rattle.stream.specs.Stream.{Note, Scan, before, scan_from, goes_on, resume, onward, together}
+use Rattle.stream.specs.Stream.{Note, Scan, stopped, before, scan_from, goes_on, resume, onward, together}
 use Rattle.stream.proofs.Streams.{scan_append}
 use Rattle.stream.proofs.Counts.{start_counted, Comes, comes}
 use Rattle.bins.specs.declared.Bins.{Bins}
 use Rattle.reading.specs.Listing.{tail_of, text_of, printed_of}
-use Rattle.lines.specs.Line.{open_after, lines_of, open_over, ending_of}
-use Rattle.reading.specs.Turn.{reading_of, read_from, start_reading, Sound, written_of, turn_of, to_come, TurnLaw, output_of, InPieces}
+use Rattle.lines.specs.Line.{last_lines, open_after, lines_of, open_over, ending_of}
+use Rattle.trace.specs.Scan.{Run, run_of}
+use Rattle.reading.proofs.Lines.{Going, Ended}
+use Rattle.reading.specs.Turn.{Turned, done_of, reading_of, read_from, start_reading, Sound, written_of, turn_of, to_come, TurnLaw, output_of, InPieces}
 use Rattle.reading.specs.declared.Reading.{Reading}
-use Rattle.reading.proofs.Lines.{Gathered, gathered_of}
-use Rattle.reading.specs.declared.Turned.{Turned}
 
--- the last lines, where there is room for them
-pub ending_put : (d : List ℕ) (at r : ℕ) (o v : List ℕ) → at + 2276 ≤ length d → r ≡ at + length (fitted (length d) at 2276 v) → o ≡ over d at (fitted (length d) at 2276 v)
-    → (r ≡ at + length v) × (o ≡ over d at v)
-ending_put d at r o v h e t =
-    let f : fitted (length d) at 2276 v ≡ v = fitted_is (length d) at 2276 v h in
-    (e ∙ ap (λ (w : List ℕ). at + length w) f, t ∙ ap (over d at) f)
+-- what a turn answers, where its run has ended
+module _ (from : Reading) (s out : List ℕ) (at : ℕ) (now : Reading) (g : Going from s out at now) (r : Run) (e : r ≡ run_of now.tell s at 0 now.state) (ended : Bool) (k : ℕ)
+    (z : Ended from s out at now g r e k) (more : Bool) (m : more ≡ goes_on k) where
+  abbrev pub written : Scan → Bins → List ℕ → List ℕ
+  written c b l = l ++ cond (done_of c ended) (last_lines from.office b c.state c.refusal c.at c.frames) []
 
--- what `turn` answers
-module _ (from : Reading) (s : List ℕ) (ended : Bool) (d o : List ℕ) (text : o ≡ over d 0 (lines_of from.office from.bins (read_from from s).told)) where
-  abbrev end_of : Gathered → Bool → List ℕ
-  end_of g more = ending_of (ended || not more) from.office g.reading.bins g.reading.state g.refusal g.reading.at g.reading.frames
+  abbrev pub at_end : Scan
+  at_end = stopped r.state (from.at + r.at) (now.frames + r.frames) k (drop r.at s)
 
-  abbrev Turns : Gathered → Bool → Type 0
-  Turns g more = (p : ℕ) (o₂ : List ℕ) → p ≡ g.put + length (end_of g more) → o₂ ≡ over o g.put (end_of g more)
-      → (record { reading = g.reading; used = g.used; put = p; done = ended || not more } ≡ turn_of from s ended) × (o₂ ≡ over d 0 (written_of from s ended))
+  pub turn_written : (o : List ℕ) → o ≡ out ++ ending_of (ended || not more) now.office now.bins r.state k (now.at + r.at) (now.frames + r.frames) → o ≡ written_of from s ended
+  unfolding written_of
+  turn_written o eo =
+      eo
+      ∙ ap (λ (q : Bool). out ++ ending_of (ended || not q) now.office now.bins r.state k (now.at + r.at) (now.frames + r.frames)) m
+      ∙ ap (λ (office : Bool). out ++ ending_of (ended || not (goes_on k)) office now.bins r.state k (now.at + r.at) (now.frames + r.frames)) g.office
+      ∙ ap (λ (base : ℕ). out ++ ending_of (ended || not (goes_on k)) from.office now.bins r.state k (base + r.at) (now.frames + r.frames)) g.base
+      ∙ sym
+      (ap (λ (c : Scan). written c (open_over from.bins (read_from from s).told) (lines_of from.office from.bins (read_from from s).told)) z.scan
+      ∙ ap (λ (b : Bins). written at_end b (lines_of from.office from.bins (read_from from s).told)) z.opened
+      ∙ ap (written at_end now.bins) z.lines)
 
-  turns : Turns (gathered_of from s) (goes_on (read_from from s).refusal)
-  unfolding turn_of written_of
-  turns p o₂ ep eo =
-      let c : Scan = read_from from s in
-      let l : List ℕ = lines_of from.office from.bins c.told in
-      let t : List ℕ = end_of (gathered_of from s) (goes_on c.refusal) in
-      let k : length (l ++ t) ≡ p = length-append l t ∙ sym ep in
-      rw k (refl, then d 0 (length l) l t o o₂ (omega arith) (omega arith) text eo)
+  abbrev pub packed : Scan → Bins → ℕ → Turned
+  packed c b n = record {
+    reading = record { tell = from.tell; office = from.office; state = c.state; at = c.at; frames = c.frames; bins = b };
+    used = c.at - from.at;
+    put = n;
+    done = done_of c ended;
+  }
 
-  pub turned : (g : Gathered) → g ≡ gathered_of from s → (more : Bool) → more ≡ goes_on g.refusal → Turns g more
-  turned g e = subst⁻¹ (λ (g : Gathered). (more : Bool) → more ≡ goes_on g.refusal → Turns g more) e (λ more m. subst⁻¹ (Turns (gathered_of from s)) m turns)
+  abbrev pub packed_as : Bool → Bool → ℕ → ℕ → Bool → ℕ → Turned
+  packed_as tell office base used q n = record {
+    reading = record { tell = tell; office = office; state = r.state; at = base + r.at; frames = now.frames + r.frames; bins = now.bins };
+    used = used;
+    put = n;
+    done = ended || not q;
+  }
+
+  pub turn_turned : (o : List ℕ) → o ≡ written_of from s ended → packed_as now.tell now.office now.at r.at more (length o) ≡ turn_of from s ended
+  unfolding turn_of
+  turn_turned o eo =
+      let u : from.at + r.at - from.at ≡ r.at = omega arith in
+      ap (λ (tell : Bool). packed_as tell now.office now.at r.at more (length o)) g.tell
+      ∙ ap (λ (office : Bool). packed_as from.tell office now.at r.at more (length o)) g.office
+      ∙ ap (λ (base : ℕ). packed_as from.tell from.office base r.at more (length o)) g.base
+      ∙ ap (λ (used : ℕ). packed_as from.tell from.office from.at used more (length o)) (sym u)
+      ∙ ap (λ (q : Bool). packed_as from.tell from.office from.at (from.at + r.at - from.at) q (length o)) m
+      ∙ ap (λ (n : ℕ). packed_as from.tell from.office from.at (from.at + r.at - from.at) (goes_on k) n) (ap length eo)
+      ∙ sym
+      (ap (λ (c : Scan). packed c (open_over from.bins (read_from from s).told) (length (written_of from s ended))) z.scan
+      ∙ ap (λ (b : Bins). packed at_end b (length (written_of from s ended))) z.opened)
 
 pub open_append : (b : Bins) (k l : List Note) → open_over b (k ++ l) ≡ open_over (open_over b k) l
 unfolding open_over

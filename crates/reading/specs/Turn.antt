@@ -1,7 +1,6 @@
 -- Reading in pieces: what the program does with the bytes it kept, the piece it read and the news that the input has ended; and the law that
 -- this gives what is printed of the whole. Assumes nothing.
 use Rattle.std.specs.Prelude.{ℕ, ◌+◌, ◌-◌, ◌<◌, ◌≡◌, Bool, true, false, cond, not, ◌||◌, List, [], ◌∷◌, ◌++◌, length, take, drop, eqb}
-use Rattle.answer.specs.Over.{over}
 use Rattle.trace.specs.Scan.{start_of}
 use Rattle.stream.specs.Stream.{Scan, scan_from, goes_on, together}
 use Rattle.stream.specs.Counts.{Counted}
@@ -9,11 +8,36 @@ use Rattle.bins.specs.Bins.{no_bins}
 use Rattle.lines.specs.Line.{lines_of, open_over}
 use Rattle.reading.specs.Listing.{tail_of, text_of, printed_of}
 use Rattle.reading.specs.declared.Reading.{Reading}
-use Rattle.reading.specs.declared.Halt.{Halt}
+use Rattle.reading.specs.declared.Turn as code
+use Rattle.reading.specs.declared.Refilled as code_refilled
 use Rattle.trace.specs.declared.Stop.{Stop}
 use Rattle.trace.specs.declared.Stop.TheVariants as stop
-use Rattle.reading.specs.declared.Turned.{Turned}
-use Rattle.reading.specs.declared.Refilled.{Refilled}
+
+-- what the stop of a run says: whether it ends the turn, whether a record was told (or else a second reported), and the refusal (0: none)
+pub record Halt : Type 0 where
+  pub ends : Bool
+  pub told : Bool
+  pub refusal : ℕ
+
+-- a turn: where the reading stands, the bytes used, the bytes to be written, and whether the output is whole with them
+pub record Turned : Type 0 where
+  pub reading : Reading
+  pub used : ℕ
+  pub put : ℕ
+  pub done : Bool
+
+-- a refill: where the reading stands, how many bytes at the buffer's start are kept, and whether the program ends
+pub record Refilled : Type 0 where
+  pub reading : Reading
+  pub held : ℕ
+  pub ended : Bool
+
+-- both as the code has them, with the reading that it leaves, and the bytes to be written
+abbrev pub turned_as : code.Turn → Reading → ℕ → Turned
+turned_as t r put = record { reading = r; used = t.used; put = put; done = t.done }
+
+abbrev pub refilled_as : code_refilled.Refilled → Reading → Refilled
+refilled_as f r = record { reading = r; held = f.held; ended = f.ended }
 
 -- where a scan stands, for the next piece
 abbrev pub reading_of : Reading → Scan → Reading
@@ -79,16 +103,16 @@ output_of r kept (p ∷ ps) =
 abbrev pub InPieces : Bool → Bool → List (List ℕ) → Type 0
 InPieces tell office ps = output_of (start_reading tell office) [] ps ≡ printed_of tell office (together ps)
 
--- A refill, that found `held` kept bytes at the start of `buf` and left `buf'`, and `out'` where `out` was: there is a piece, which is what
--- `read` put there (empty at the end of the input), and the rest is a turn over the kept bytes and that piece, with what is to be written at the
--- start of `out'`, and the bytes that it did not use kept.
-pub record Refill (from : Reading) (held : ℕ) (buf buf' out out' : List ℕ) (r : Refilled) : Type 0 where
+-- A refill, that found `held` kept bytes at the start of `buf` and left `buf'`, and `out` to be written: there is a piece, which is what `read` put
+-- there (empty at the end of the input), and the rest is a turn over the kept bytes and that piece, with `out` what is to be written, and the bytes that
+-- it did not use kept.
+pub record Refill (from : Reading) (held : ℕ) (buf buf' out : List ℕ) (r : Refilled) : Type 0 where
   pub piece : List ℕ
   pub whole : List ℕ
   pub is : whole ≡ take held buf ++ piece
   pub turned : Turned
   pub turns : turned ≡ turn_of from whole (eqb (length piece) 0)
-  pub written : out' ≡ over out 0 (written_of from whole (eqb (length piece) 0))
+  pub written : out ≡ written_of from whole (eqb (length piece) 0)
   pub reading : r.reading ≡ turned.reading
   pub kept : take r.held buf' ≡ drop turned.used whole
   pub done : turned.done ≡ true → r.ended ≡ true

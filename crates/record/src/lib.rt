@@ -2,69 +2,58 @@
 #![tactic(auto)]
 
 ghost use Rattle.std.specs.Prelude.{◌≡◌, ◌<◌, get_or};
-ghost use Rattle.record.specs.Record.{record_at, length_of, refusal_in, of_kind, frames_in, two_at, request_at, section_in, path_in, level_in};
+ghost use Rattle.record.specs.Record.{record_at, length_of, refusal_in, of_kind, frames_in, two_at, four_at, request_at, section_in, path_in, level_in};
 
+use answer::Refusal;
 use settings::Request;
 
 // One record. A body stands after the length and the kind, four bytes from the record's start.
-#[derive(Clone, Copy)]
+#[derive(Clone, Copy, Debug, PartialEq, Eq)]
 pub enum Record {
     Frame,
     Mark,
     Provisioning,
     Level,
     LevelFrame,
+    // A number, and no Refusal: length_of, refusal_in and frames_in answer for every number.
     Refused(u8),
-}
-
-// A byte as a wide number: a call asks nothing for the cast.
-fn wide(x: u8) -> usize
-    ensures { (result ≡ x) × (result < 256) }
-{
-    x as usize
 }
 
 // The byte at a place of s; past the end of s 0.
 fn byte_at(s: &[u8], at: usize) -> u8
     ensures { result ≡ get_or s.now at 0 }
 {
-    if at < s.len() {
-        return s[at];
-    }
-    0
+    s.get(at).copied().unwrap_or(0)
 }
 
-// Two bytes, the low one first.
-fn two_at(s: &[u8], at: usize) -> usize
-    ensures { (result ≡ two_at s.now at) × (result < 65536) }
+// Two bytes and four, the low one first.
+fn two_at(s: &[u8], at: usize) -> u16
+    requires { at < 16 }
+    ensures { result ≡ two_at s.now at }
 {
-    if at < s.len() {
-        return wide(s[at]) + 256 * wide(byte_at(s, at + 1));
-    }
-    0
+    u16::from_le_bytes([byte_at(s, at), byte_at(s, at + 1)])
+}
+
+fn four_at(s: &[u8], at: usize) -> u32
+    requires { at < 14 }
+    ensures { result ≡ four_at s.now at }
+{
+    u32::from(two_at(s, at)) + 65536 * u32::from(two_at(s, at + 2))
 }
 
 // The record of a kind.
 #[tactic(auto, unfolding(crate::specs::Record::of_kind))]
-fn of_kind(kind: usize) -> Record
+fn of_kind(kind: u16) -> Record
     ensures { result ≡ of_kind kind }
 {
-    if kind == 1 {
-        return Record::Frame;
+    match kind {
+        1 => Record::Frame,
+        2 => Record::Mark,
+        3 => Record::Provisioning,
+        4 => Record::Level,
+        5 => Record::LevelFrame,
+        _ => Record::Refused(Refusal::UnknownRecord.number()),
     }
-    if kind == 2 {
-        return Record::Mark;
-    }
-    if kind == 3 {
-        return Record::Provisioning;
-    }
-    if kind == 4 {
-        return Record::Level;
-    }
-    if kind == 5 {
-        return Record::LevelFrame;
-    }
-    Record::Refused(15)
 }
 
 // The length that a record says, 0 where it is refused.
@@ -81,17 +70,14 @@ pub fn length_of(r: Record) -> usize
     }
 }
 
-// The refusal that a record is, 0 where it is none.
+// The number of the refusal that a record is, 0 where it is none.
 pub fn refusal_in(r: Record) -> u8
     ensures { result ≡ refusal_in r }
 {
     match r {
-        Record::Frame => 0,
-        Record::Mark => 0,
-        Record::Provisioning => 0,
-        Record::Level => 0,
-        Record::LevelFrame => 0,
-        Record::Refused(no) => no,
+        Record::Refused(number) => number,
+        Record::Frame | Record::Mark | Record::Provisioning | Record::Level | Record::LevelFrame =>
+            0,
     }
 }
 
@@ -100,38 +86,27 @@ pub fn frames_in(r: Record) -> usize
     ensures { result ≡ frames_in r }
 {
     match r {
-        Record::Frame => 1,
-        Record::Mark => 0,
-        Record::Provisioning => 0,
-        Record::Level => 0,
-        Record::LevelFrame => 1,
-        Record::Refused(_) => 0,
+        Record::Frame | Record::LevelFrame => 1,
+        Record::Mark | Record::Provisioning | Record::Level | Record::Refused(_) => 0,
     }
 }
 
 // The record at a position of s; past the end of s there is none, as in a cut one.
+#[tactic(auto, unfolding(crate::specs::Record::record_of))]
 pub fn record_at(s: &[u8], at: usize) -> Record
     ensures { result ≡ record_at s.now at }
 {
-    if s.len() <= at {
-        return Record::Refused(14);
+    let rest = s.get(at..).unwrap_or(&[]);
+    if rest.len() < 4 {
+        return Record::Refused(Refusal::CutRecord.number());
     }
-    let left = s.len() - at;
-    if left < 4 {
-        return Record::Refused(14);
-    }
-    let said = two_at(s, at);
-    let kind = two_at(s, at + 2);
-    let r = of_kind(kind);
+    let r = of_kind(two_at(rest, 2));
     let want = length_of(r);
-    if want == 0 {
-        return Record::Refused(15);
+    if (want == 0) | (usize::from(two_at(rest, 0)) != want) {
+        return Record::Refused(Refusal::UnknownRecord.number());
     }
-    if said != want {
-        return Record::Refused(15);
-    }
-    if left < want + 2 {
-        return Record::Refused(14);
+    if rest.len() < want + 2 {
+        return Record::Refused(Refusal::CutRecord.number());
     }
     r
 }
@@ -141,10 +116,8 @@ fn request_at(body: &[u8], thr: usize, mode: usize, dis: usize) -> Request
     requires { thr < 7 }
     ensures { result ≡ request_at body.now thr mode dis }
 {
-    let low = two_at(body, thr);
-    let high = two_at(body, thr + 2);
     Request {
-        thr: (low + 65536 * high) as u32,
+        thr: four_at(body, thr),
         degm: byte_at(body, thr + 4),
         mode: byte_at(body, mode),
         dis: byte_at(body, dis),

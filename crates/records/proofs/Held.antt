@@ -26,7 +26,7 @@ use Rattle.numbers.proofs.Strips.{flag_back, byte, FrontFits, StateFits}
 use Rattle.image.specs.Image.{section_held, path_held, Sizes}
 use Rattle.history.specs.Ranges.{Ranged}
 use Rattle.supervisor.specs.declared.Supervisor.{Supervisor}
-use Rattle.cycle.specs.declared.Cycle.{Cycle}
+use Rattle.layer.specs.declared.Cycle.{Cycle}
 use Rattle.cycle.specs.Cycle.{cycle_in, cycle_bytes, traced, cycle_step, tim_in, layer_step, tim_after}
 use Rattle.fields.specs.Fields.{raised, counted_by, counts_in}
 

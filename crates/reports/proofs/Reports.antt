@@ -16,9 +16,8 @@ use Rattle.tandem.specs.Tandem.{fresh_tandem, marked_of}
 use Rattle.tandem.specs.declared.Tandem.{Tandem}
 use Rattle.watch.specs.Watch.{LevelCall, gives, records, frames, marks, tandem_by, tandem_after, AllTaken, events_among}
 use Rattle.sheet.specs.Sheet.{reached}
-use Rattle.late.specs.Late.{fresh_late, section_erred, levels_erred, voided, pending_of, next_report, late_marked}
+use Rattle.late.specs.Late.{LateMarked, fresh_late, section_erred, levels_erred, voided, pending_of, next_report, late_marked}
 use Rattle.late.specs.declared.Late.{Late}
-use Rattle.late.specs.declared.LateMarked.{LateMarked}
 use Rattle.reports.specs.Reports.{late_by, late_after, late_at, mark_tells, calls_tell, end_tells, plain_of, marks_in, before_mark, Next, not_yet, closes}
 use Rattle.reports.specs.Reports.{report_of, second_at, up_to, EveryReported}
 use Rattle.reports.proofs.Lists.{taken_parts, taken_join, late_append, tells_append, marks_append, marks_plain, MarkAt, mark_at, before_append, before_next}

@@ -1,3 +1,3 @@
-pub mod Unique
 pub mod Ranges
+pub mod Unique
 pub mod Refuted

@@ -2,11 +2,13 @@
 #![tactic(auto)]
 
 ghost use Rattle.std.specs.Prelude.{◌≡◌};
+ghost use Rattle.answer.specs.Refusal.{said};
 ghost use Rattle.settings.specs.Settings.{ceiling_of, thr_good, degm_good, settings_refusal, disabled_of, options_of};
 
-use answer::checked;
+use answer::{Refusal, test};
 
 // What is asked for one layer: DEGThr, DEGM, trace mode, TIMActDis byte.
+// Numbers and no enums: `accepted` refuses each number beyond its range, and so takes them all.
 #[derive(Clone, Copy)]
 pub struct Request {
     pub thr: u32,
@@ -16,6 +18,7 @@ pub struct Request {
 }
 
 // What is kept of it, with the expected names.
+// `mode` here and `k` below stay numbers: `options_of` keeps any request and cannot fail, theorem `TimIs` speaks of every mode, and N and the ceiling of every k.
 #[derive(Clone, Copy)]
 pub struct Options {
     pub thr: u32,
@@ -37,21 +40,18 @@ pub struct Settings {
 fn ceiling(k: u8) -> u32
     ensures { result ≡ ceiling_of k }
 {
-    if k == 1 {
-        return 20420;
+    match k {
+        1 => 20420,
+        2 => 82025,
+        _ => 329492,
     }
-    if k == 2 {
-        return 82025;
-    }
-    329492
 }
 
 #[tactic(auto, unfolding(crate::specs::Settings::thr_good))]
 fn thr_good(k: u8, thr: u32) -> bool
     ensures { result ≡ thr_good k thr }
 {
-    let most = ceiling(k);
-    (1 <= thr) & (thr <= most)
+    (1 <= thr) & (thr <= ceiling(k))
 }
 
 #[tactic(auto, unfolding(crate::specs::Settings::degm_good))]
@@ -61,21 +61,38 @@ fn degm_good(degm: u8) -> bool
     (2 <= degm) & (degm <= 10)
 }
 
-// The refusal of a provisioning, 0 where it is accepted.
+// Whether a provisioning is accepted: the tests in the order of their numbers.
 #[tactic(auto, unfolding(crate::specs::Settings::settings_refusal))]
-pub fn settings_refusal(k: u8, section: Request, path: Request, snames: &[u8], pnames: &[u8]) -> u8
-    ensures { result ≡ settings_refusal k section path snames.now pnames.now }
+pub fn accepted(
+    k: u8,
+    section: &Request,
+    path: &Request,
+    snames: &[u8],
+    pnames: &[u8],
+) -> Result<(), Refusal>
+    ensures { said result ≡ settings_refusal k section.now path.now snames.now pnames.now }
 {
-    let sthr = thr_good(k, section.thr);
-    let pthr = thr_good(k, path.thr);
-    let sdegm = degm_good(section.degm);
-    let pdegm = degm_good(path.degm);
-    let ten = checked(10, (snames.len() == 32) & (pnames.len() == 32), 0);
-    let nine = checked(9, (section.dis <= 2) & (path.dis <= 2), ten);
-    let eight = checked(8, (section.mode <= 3) & (path.mode <= 3), nine);
-    let seven = checked(7, sdegm & pdegm, eight);
-    let six = checked(6, sthr & pthr, seven);
-    checked(5, (1 <= k) & (k <= 3), six)
+    test((1 <= k) & (k <= 3), Refusal::UnknownOrder)?;
+    test(
+        thr_good(k, section.thr) & thr_good(k, path.thr),
+        Refusal::DegThreshold,
+    )?;
+    test(
+        degm_good(section.degm) & degm_good(path.degm),
+        Refusal::DegMonitoring,
+    )?;
+    test(
+        (section.mode <= 3) & (path.mode <= 3),
+        Refusal::UnknownTraceMode,
+    )?;
+    test(
+        (section.dis <= 2) & (path.dis <= 2),
+        Refusal::UnknownTimAction,
+    )?;
+    test(
+        (snames.len() == 32) & (pnames.len() == 32),
+        Refusal::NameLength,
+    )
 }
 
 // Whether a TIMActDis byte disables: 0 acts, 1 disabled, 2 default, which is disabled.
@@ -85,23 +102,15 @@ fn disabled_of(dis: u8) -> bool
     1 <= dis
 }
 
-fn wide(x: u8) -> u32
-    ensures { result ≡ x }
-{
-    x as u32
-}
-
 // What is kept of an accepted request.
-pub fn options_of(r: Request, names: [u8; 32]) -> Options
-    ensures { result ≡ options_of r names }
+pub fn options_of(r: &Request, names: [u8; 32]) -> Options
+    ensures { result ≡ options_of r.now names }
 {
-    let degm = wide(r.degm);
-    let disabled = disabled_of(r.dis);
     Options {
         thr: r.thr,
-        degm: degm,
+        degm: u32::from(r.degm),
         mode: r.mode,
-        disabled: disabled,
-        names: names,
+        disabled: disabled_of(r.dis),
+        names,
     }
 }

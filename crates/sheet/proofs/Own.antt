@@ -17,8 +17,7 @@ use Rattle.settings.specs.declared.Request.{Request}
 use Rattle.settings.specs.declared.Settings.{Settings}
 use Rattle.causes.specs.Causes.{path_ssf as ssf_of_path}
 use Rattle.second.specs.Second.{count_of, one_frame}
-use Rattle.level.specs.Level.{level_frame, level_count, level_marked, fresh_level_second}
-use Rattle.level.specs.declared.LevelFrame.{LevelFrame}
+use Rattle.level.specs.Level.{LevelFrame, level_frame, level_count, level_marked, fresh_level_second}
 use Rattle.supervisor.specs.Supervisor.{fresh_of, step_refusal, frame_of, next_second}
 use Rattle.supervisor.specs.declared.Supervisor.{Supervisor}
 use Rattle.history.specs.History.{Frame, frame, mark, framed, stands_at, event_of, refusal_of as plain_refusal}

@@ -18,8 +18,7 @@ use Rattle.level.specs.declared.Status.TheVariants.{Clear, Ltc, Iae, Lck, Oci, A
 use Rattle.level.specs.declared.LevelStands.{LevelStands}
 use Rattle.level.specs.declared.LevelActions.{LevelActions}
 use Rattle.level.specs.declared.LevelCauses.{LevelCauses}
-use Rattle.supervisor.specs.Supervisor.{fresh_of}
-use Rattle.supervisor.specs.declared.Traced.{Traced}
+use Rattle.supervisor.specs.Supervisor.{Traced, fresh_of}
 use Rattle.history.specs.History.{Frame, Event, frame, mark}
 use Rattle.history.specs.Ledger.{marks}
 use Rattle.tandem.specs.Levels.{count_at, low_to}

@@ -1,8 +1,8 @@
 // What an accepted STAT stands for, and the defects that it raises.
 #![tactic(auto)]
 
-ghost use Rattle.std.specs.Prelude.{◌≡◌, eqb};
-ghost use Rattle.signal.specs.Signal.{signal_of, stands_for, code_of, raised_of};
+ghost use Rattle.std.specs.Prelude.{◌≡◌};
+ghost use Rattle.signal.specs.Signal.{signal_of, stands_for, raised_of};
 
 use filter::Stat;
 
@@ -15,15 +15,16 @@ pub struct Raised {
 }
 
 // What an accepted STAT stands for.
-#[derive(Clone, Copy)]
+#[derive(Clone, Copy, Debug, Default, PartialEq, Eq)]
 pub enum Signal {
+    #[default]
     Clear,
     Lck,
     Oci,
     Ais,
 }
 
-// The signal of a three-bit STAT number.
+// The signal of a three-bit STAT number. No `From<u8>`: that would name a signal of any byte to every crate, for this one caller.
 #[tactic(auto, unfolding(crate::specs::Signal::signal_of))]
 fn signal_of(stat: u8) -> Signal
     ensures { result ≡ signal_of stat }
@@ -43,20 +44,9 @@ pub fn stands_for(s: Stat) -> Signal
     ensures { result ≡ stands_for s }
 {
     if s.known {
-        return signal_of(s.accepted);
-    }
-    Signal::Clear
-}
-
-// Whether a signal is the one that a code raises; 0 raises none.
-fn is_of(s: Signal, code: u8) -> bool
-    ensures { result ≡ eqb (code_of s) code }
-{
-    match s {
-        Signal::Clear => 0 == code,
-        Signal::Lck => 5 == code,
-        Signal::Oci => 6 == code,
-        Signal::Ais => 7 == code,
+        signal_of(s.accepted)
+    } else {
+        Signal::Clear
     }
 }
 
@@ -64,13 +54,10 @@ fn is_of(s: Signal, code: u8) -> bool
 pub fn raised_by(s: Signal) -> Raised
     ensures { result ≡ raised_of s }
 {
-    let ais = is_of(s, 7);
-    let oci = is_of(s, 6);
-    let lck = is_of(s, 5);
     Raised {
-        ais: ais,
-        oci: oci,
-        lck: lck,
+        ais: s == Signal::Ais,
+        oci: s == Signal::Oci,
+        lck: s == Signal::Lck,
     }
 }
 

@@ -27,10 +27,9 @@ use Rattle.watch.specs.Watch.{LevelCall, gives, records, frames, marks, tandem_b
 use Rattle.ranges.specs.Sound.{below}
 use Rattle.ranges.proofs.Below.{below_all, below_append, below_front, below_rest, flag_leb}
 use Rattle.slot.specs.Slot.{five_greatest, figures_ranged}
-use Rattle.late.specs.Late.{five_by, fresh_late, void_five, void_levels, voided, late_marked}
+use Rattle.late.specs.Late.{LateMarked, five_by, fresh_late, void_five, void_levels, voided, late_marked}
 use Rattle.late.specs.declared.Erred.{Erred}
 use Rattle.late.specs.declared.Late.{Late}
-use Rattle.late.specs.declared.LateMarked.{LateMarked}
 use Rattle.reports.specs.Reports.{late_by, late_after}
 use Rattle.bays.specs.Ranges.{OneIn, AllIn, TandemIn, CallBytes}
 use Rattle.bays.proofs.Kept.{tandem_kept}

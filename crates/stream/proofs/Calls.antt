@@ -23,9 +23,9 @@ use Rattle.tandem.specs.Levels.{given_level, blank_level, stepped_level, marked_
 use Rattle.tandem.specs.Tandem.{begun, request_checks, place_checks, record_refusal, given_by, recorded_of, frame_checks, frame_refusal, framed_of, marked_of}
 use Rattle.tandem.specs.declared.Level.{Level}
 use Rattle.tandem.specs.declared.Tandem.{Tandem}
-use Rattle.tandem.specs.declared.Given.{Given}
-use Rattle.tandem.specs.declared.TandemStepped.{TandemStepped}
-use Rattle.tandem.specs.declared.TandemMarked.{TandemMarked}
+use Rattle.tandem.specs.Tandem.{Given}
+use Rattle.tandem.specs.Tandem.{TandemStepped}
+use Rattle.tandem.specs.Tandem.{TandemMarked}
 use Rattle.watch.specs.Watch.{refusal_at, framed_at, multi_at}
 use Rattle.watch.proofs.Silent.{mark_refusal_lem}
 use Rattle.watch.proofs.Alone.{at_number, frame_accepted}

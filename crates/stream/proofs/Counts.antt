@@ -17,12 +17,12 @@ use Rattle.settings.specs.Settings.{settings_refusal}
 use Rattle.second.specs.Second.{count_of, one_frame}
 use Rattle.supervisor.specs.Supervisor.{provision_of, step_checks, step_refusal, frame_of, next_second, mark_of}
 use Rattle.settings.specs.declared.Request.{Request}
-use Rattle.supervisor.specs.declared.Provisioned.{Provisioned}
+use Rattle.supervisor.specs.Supervisor.{Provisioned}
 use Rattle.supervisor.specs.declared.Supervisor.{Supervisor}
 use Rattle.tandem.specs.Tandem as tandem
 use Rattle.tandem.specs.Tandem.{record_refusal}
 use Rattle.tandem.specs.declared.Tandem.{Tandem}
-use Rattle.tandem.specs.declared.TandemMarked.{TandemMarked}
+use Rattle.tandem.specs.Tandem.{TandemMarked}
 use Rattle.tandem.proofs.Turns.{figures_long}
 use Rattle.watch.specs.Watch.{marks, refusal_at, framed_at, tandem_by}
 use Rattle.watch.proofs.Silent.{given_base}
@@ -35,15 +35,15 @@ use Rattle.stream.specs.Figures.{sent_in, after_call}
 use Rattle.record.specs.declared.Record.{Record}
 use Rattle.record.specs.declared.Record.TheVariants.{Frame, Mark, Provisioning, Level, LevelFrame, Refused}
 use Rattle.trace.specs.declared.State.{State}
-use Rattle.trace.specs.declared.Taken.{Taken}
-use Rattle.trace.specs.declared.Run.{Run}
+use Rattle.trace.specs.Scan.{Taken}
+use Rattle.trace.specs.Scan.{Run}
 use Rattle.trace.specs.declared.Stop.TheVariants as stop
 use Rattle.record.proofs.Records.{Whole, whole_record}
 use Rattle.trace.proofs.Scans.{sized, some_left, run_end, run_refused, run_reported, run_told, run_on}
 use Rattle.stream.proofs.Streams.{along, scan_refused, scan_on}
 use Rattle.late.specs.Late.{late_marked}
 use Rattle.late.specs.declared.Late.{Late}
-use Rattle.late.specs.declared.LateMarked.{LateMarked}
+use Rattle.late.specs.Late.{LateMarked}
 use Rattle.reports.specs.Reports.{late_by}
 use Rattle.stream.proofs.Calls.{few_given, frame_levels, mark_levels, record_levels}
 use Rattle.stream.proofs.Lates.{late_tandem, reported_long}

@@ -16,7 +16,7 @@ use Rattle.settings.proofs.Ranges.{provisioned_in}
 use Rattle.supervisor.specs.Supervisor.{fresh_of, provision_of, frame_of, next_second}
 use Rattle.settings.specs.declared.Request.{Request}
 use Rattle.settings.specs.declared.Settings.{Settings}
-use Rattle.supervisor.specs.declared.Provisioned.{Provisioned}
+use Rattle.supervisor.specs.Supervisor.{Provisioned}
 use Rattle.supervisor.specs.declared.Supervisor.{Supervisor}
 use Rattle.history.proofs.History.{accepted_append}
 use Rattle.history.proofs.Ledger.{demand_3}
@@ -36,7 +36,7 @@ use Rattle.stream.specs.Figures.{sent_in, call_in, calls_over, calls_of, events_
 use Rattle.record.specs.declared.Record.{Record}
 use Rattle.record.specs.declared.Record.TheVariants.{Frame, Mark, Provisioning, Level, LevelFrame, Refused}
 use Rattle.trace.specs.declared.State.{State}
-use Rattle.trace.specs.declared.Taken.{Taken}
+use Rattle.trace.specs.Scan.{Taken}
 use Rattle.record.proofs.Records.{Whole, whole_record}
 use Rattle.stream.proofs.Lates.{late_tandem, late_by_lem, late_after_lem}
 use Rattle.stream.proofs.Listed.{mark_stays, listed_after}

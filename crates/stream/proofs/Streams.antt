@@ -13,7 +13,7 @@ use Rattle.record.specs.Record.{record_of, records_from, size_of, frames_in}
 use Rattle.trace.specs.Scan.{start_of, taken_of, run_of}
 use Rattle.stream.specs.Stream.{Note, Scan, before, stopped, noted, scan_over, scan_from, scan_of, goes_on, resume, onward, feed_of, together, InAnyPieces, scan_after}
 use Rattle.trace.specs.declared.State.{State}
-use Rattle.trace.specs.declared.Taken.{Taken}
+use Rattle.trace.specs.Scan.{Taken}
 use Rattle.record.proofs.Records.{records_next}
 use Rattle.trace.proofs.Scans.{sized, taken_append, some_bytes, some_left, run_end, run_refused, run_reported, run_told, run_on}
 

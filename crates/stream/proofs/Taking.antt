@@ -14,9 +14,9 @@ use Rattle.settings.specs.Settings.{settings_checks, settings_refusal}
 use Rattle.supervisor.specs.Supervisor.{provision_of}
 use Rattle.settings.specs.declared.Request.{Request}
 use Rattle.causes.specs.declared.Standing.{Standing}
-use Rattle.supervisor.specs.declared.Provisioned.{Provisioned}
+use Rattle.supervisor.specs.Supervisor.{Provisioned}
 use Rattle.tandem.specs.Tandem as tandem
-use Rattle.tandem.specs.declared.TandemStepped.{TandemStepped}
+use Rattle.tandem.specs.Tandem.{TandemStepped}
 use Rattle.watch.specs.Watch.{LevelCall, records, frames, marks, refusal_at, framed_at, tandem_by, refusal_of}
 use Rattle.watch.proofs.Alone.{standing_accepted}
 use Rattle.record.specs.Record.{section_in, path_in, level_in}
@@ -24,7 +24,7 @@ use Rattle.late.specs.Late.{late_marked}
 use Rattle.reports.specs.Reports.{late_by}
 use Rattle.trace.specs.Scan.{beside, answered_of, give_in, alike, stepped_of, framed_of, marked_of, provisioned_of, given_of}
 use Rattle.trace.specs.declared.State.{State}
-use Rattle.trace.specs.declared.Taken.{Taken}
+use Rattle.trace.specs.Scan.{Taken}
 use Rattle.stream.specs.Figures.{sent_in, after_call}
 use Rattle.stream.proofs.Calls.{zero_or, frame_says, given_says, frame_uncut, mark_uncut, record_uncut}
 use Rattle.stream.proofs.Lates.{late_refusal}

@@ -12,7 +12,7 @@ use Rattle.reports.specs.Reports.{late_by, marks_in, second_at, up_to, LineDeman
 use Rattle.record.specs.declared.Record.{Record}
 use Rattle.record.specs.declared.Record.TheVariants.{Frame, Mark, Provisioning, Level, LevelFrame, Refused}
 use Rattle.trace.specs.declared.State.{State}
-use Rattle.trace.specs.declared.Taken.{Taken}
+use Rattle.trace.specs.Scan.{Taken}
 use Rattle.record.specs.Record.{kind_of, record_of, records_of, body_of, frames_in, level_in}
 use Rattle.trace.specs.Scan.{start_of, taken_of, no_counts, counts_in}
 use Rattle.stream.specs.Stream.{Note, second, change, listed_in, last_listed, pending_listed, Scan, scan_of}

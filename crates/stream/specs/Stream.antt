@@ -1,8 +1,8 @@
 -- The scan of a whole trace, and the scan of it in pieces (document 01, "Trace records and the listing"; document 02, K1, K3, K7). Assumes nothing.
 use Rattle.std.specs.Prelude.{ℕ, ◌+◌, ◌≡◌, Bool, true, cond, List, [], ◌∷◌, ◌++◌, map, eqb, drop}
 use Rattle.record.specs.declared.Record.{Record}
-use Rattle.trace.specs.declared.Taken.{Taken}
-use Rattle.trace.specs.declared.Run.{Run}
+use Rattle.trace.specs.Scan.{Taken}
+use Rattle.trace.specs.Scan.{Run}
 use Rattle.trace.specs.declared.Stop.{Stop}
 use Rattle.trace.specs.declared.Stop.TheVariants as stop
 use Rattle.trace.specs.declared.State.{State}

@@ -7,7 +7,7 @@ use native.Mathlib.Omega.{arith}
 use lib.Dec.{eqb, leb}
 use lib.ListN.{get_or}
 use Rattle.answer.proofs.Cond.{and_left, and_right}
-use Rattle.summary.specs.Summary.{five_good, heads_good, valid_of, FiveLow, HeadsLow, Low}
+use Rattle.summary.specs.Summary.{five_good, heads_good, valid_of, FiveLow, Low}
 use Rattle.summary.specs.declared.Five.{Five}
 use Rattle.summary.specs.declared.Summary.{Summary}
 use borrow.Author.Tests.{leb-true, leb-false, le-leb, lt-leb}

@@ -6,9 +6,9 @@ use mathlib.Core.List.{List, [], ◌∷◌}
 use native.Mathlib.Omega.{arith}
 use lib.Dec.{eqb, leb}
 use lib.ListN.{length, get_or}
-use borrow.Author.Tests.{leb-true, le-leb, lt-leb, leb-false, eqb-true, eq-eqb, ne_eqb, eqb-false}
-use Rattle.summary.specs.Summary.{five_good, heads_good, valid_of, five_sum, heads_sum, both_at, added_of, follows_on, place_refusal, join_refusal, empty_summary, join_of}
-use Rattle.summary.specs.Laws.{Sound, accepted, joined, EmptyUnit, Closed, Associative, EveryUnit, EveryAssociative}
+use borrow.Author.Tests.{leb-true, le-leb, lt-leb, leb-false, eqb-true, ne_eqb}
+use Rattle.summary.specs.Summary.{five_good, heads_good, valid_of, five_sum, heads_sum, both_at, added_of, follows_on, place_refusal, join_refusal, empty_summary}
+use Rattle.summary.specs.Laws.{Sound, accepted, joined, Closed, EveryUnit, EveryAssociative}
 use Rattle.answer.proofs.Cond.{and_left, and_right}
 use Rattle.summary.proofs.Joins.{joins}
 use Rattle.summary.proofs.Bounds.{FiveIn, HeadsIn, Parts, valid_parts, parts_valid}

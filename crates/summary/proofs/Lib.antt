@@ -1,4 +1,5 @@
 pub mod Bounds
+pub mod Heads
 pub mod Joins
 pub mod Laws
 pub mod Refuted

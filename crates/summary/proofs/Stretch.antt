@@ -1,11 +1,11 @@
 -- Neighbouring stretches join to the summary of both. Assumes nothing.
 use Prim.Native.Nat.{ℕ, zero, suc, ◌+◌, ◌*◌, ◌≤◌, ◌<◌}
 use mathlib.Core.Path.{◌≡◌, refl, sym, ap, subst, ◌∙◌}
-use mathlib.Core.Bool.{Bool, true, false, cond, ◌||◌, beq}
+use mathlib.Core.Bool.{Bool, true, false, cond, beq}
 use mathlib.Core.List.{List, [], ◌∷◌, ◌++◌, map, append_assoc, append-nil}
 use native.Mathlib.Nat.{mul-suc}
 use native.Mathlib.Omega.{arith}
-use lib.Dec.{eqb, leb}
+use lib.Dec.{eqb}
 use lib.ListN.{length, get_or, length-append}
 use borrow.Author.Tests.{le-leb, eq-eqb, ne_eqb}
 use Rattle.answer.specs.Bounded.{Bounded}
@@ -13,7 +13,7 @@ use Rattle.summary.specs.Summary.{valid_of, empty_summary, added_of, follows_on,
 use Rattle.summary.specs.Laws.{joined}
 use Rattle.summary.specs.Stretch.{total, seconds_with, five_at, heads_at, first_number, summary_of, SecondIn, Numbered, Neighbours, join_all, pieced, EveryCut, ten_of, Filed, HeadsWhole, SecondAlone, BoundedBoth, SummaryBounded}
 use Rattle.summary.specs.declared.Summary.{Summary}
-use Rattle.summary.proofs.Bounds.{FiveIn, HeadsIn, Parts, parts_valid}
+use Rattle.summary.proofs.Bounds.{FiveIn, HeadsIn, parts_valid}
 use Rattle.summary.proofs.Joins.{joins}
 
 -- sums over two stretches

@@ -1,9 +1,8 @@
 -- What is proved of joining (document 02, K6): "Joining summaries must be associative with the empty one as unit, where each follows on and the joined length stays within
 -- the limit". Assumes nothing.
-use Rattle.std.specs.Prelude.{ℕ, ◌≡◌, Bool, true, cond, ◌&&◌, eqb, length}
-use Rattle.summary.specs.Summary.{valid_of, empty_summary, added_of, join_refusal, join_of}
+use Rattle.std.specs.Prelude.{◌≡◌, Bool, true, ◌&&◌, eqb, length}
+use Rattle.summary.specs.Summary.{valid_of, empty_summary, added_of, join_refusal, Joined, join_of}
 use Rattle.summary.specs.declared.Summary.{Summary}
-use Rattle.summary.specs.declared.Joined.{Joined}
 
 -- a summary that is one, with its ten heads
 pub record Sound (a : Summary) : Type 0 where

@@ -1,12 +1,11 @@
 -- The summary of a stretch of reported seconds, by plain sums, and what joining does to two that are neighbours (document 02, K6). A second is its figures, as an S line and the record of
 -- otn_mark have them: number, frames, ten heads, then near-end and far-end blocks, near DS, far DS and the sum of the far end's violations, of section and path. Assumes nothing.
-use Rattle.std.specs.Prelude.{ℕ, zero, suc, ◌+◌, ◌*◌, ◌≤◌, ◌<◌, ◌≡◌, cond, List, [], ◌∷◌, ◌++◌, map, eqb, length, get_or}
+use Rattle.std.specs.Prelude.{ℕ, suc, ◌+◌, ◌≤◌, ◌<◌, ◌≡◌, cond, List, [], ◌∷◌, ◌++◌, map, eqb, length, get_or}
 use Rattle.answer.specs.Bounded.{Bounded}
-use Rattle.summary.specs.Summary.{empty_summary, join_of, second_of}
+use Rattle.summary.specs.Summary.{empty_summary, Joined, join_of, second_of}
 use Rattle.summary.specs.Laws.{joined}
 use Rattle.summary.specs.declared.Five.{Five}
 use Rattle.summary.specs.declared.Summary.{Summary}
-use Rattle.summary.specs.declared.Joined.{Joined}
 
 -- "counts and heads added", and the sums: a figure, by its place, over all seconds
 unfoldable pub total : ℕ → List (List ℕ) → ℕ

@@ -5,7 +5,6 @@ use Rattle.std.specs.Bool.{beq}
 use Rattle.answer.specs.Checks.{Check, check, first_of}
 use Rattle.summary.specs.declared.Five.{Five}
 use Rattle.summary.specs.declared.Summary.{Summary}
-use Rattle.summary.specs.declared.Joined.{Joined}
 
 -- "a DS above its length, or a count or head total above 400,000 times its length"; "A handed-in sum above 3,200,000 times the length is 26" (K7)
 unfoldable pub five_good : Five → ℕ → ℕ → ℕ → Bool
@@ -92,6 +91,11 @@ join_checks a b = check 26 (valid_of a) ∷ check 26 (valid_of b) ∷ place_chec
 
 unfoldable pub join_refusal : Summary → Summary → ℕ
 join_refusal a b = first_of (join_checks a b)
+
+-- what joining comes to: `refusal` is 0 where the two are joined, and then `summary` is of both
+pub record Joined : Type 0 where
+  pub refusal : ℕ
+  pub summary : Summary
 
 -- two joined; where it is refused, the empty summary is handed over
 abbrev pub refused_with : ℕ → Joined

@@ -10,7 +10,7 @@ use Rattle.codec.specs.Over.{poured}
 use Rattle.summary.specs.Summary.{join_refusal, join_of, added_of}
 use Rattle.summary.specs.Laws.{Sound, joined}
 use Rattle.summary.specs.declared.Summary.{Summary}
-use Rattle.summary.specs.declared.Joined.{Joined}
+use Rattle.summary.specs.Summary.{Joined}
 use Rattle.pack.specs.Pack.{summary_bytes, joined_refusal, joined_out, JoinCall, SameSummary}
 use Rattle.pack.proofs.Trip.{every_same}
 

@@ -8,16 +8,32 @@ use Rattle.frame.specs.Layers.{layers_of, standing_of, degraded, fresh_layers}
 use Rattle.second.specs.Second.{count_of, closed_of, figures_of, fresh_second}
 use Rattle.settings.specs.Settings.{settings_refusal, options_of}
 use Rattle.causes.specs.declared.Standing.{Standing}
+use Rattle.causes.specs.declared.Report.{Report}
 use Rattle.second.specs.declared.Second.{Second}
 use Rattle.settings.specs.declared.Request.{Request}
 use Rattle.settings.specs.declared.Options.{Options}
 use Rattle.settings.specs.declared.Settings.{Settings}
 use Rattle.frame.specs.declared.Layers.{Layers}
 use Rattle.supervisor.specs.declared.Supervisor.{Supervisor}
-use Rattle.supervisor.specs.declared.Provisioned.{Provisioned}
-use Rattle.supervisor.specs.declared.Stepped.{Stepped}
-use Rattle.supervisor.specs.declared.Marked.{Marked}
-use Rattle.supervisor.specs.declared.Traced.{Traced}
+
+-- the answers as the C edge has them: the refusal's number, 0 where the call is accepted
+pub record Provisioned : Type 0 where
+  pub refusal : ℕ
+  pub supervisor : Supervisor
+
+pub record Stepped : Type 0 where
+  pub refusal : ℕ
+  pub report : Report
+  pub supervisor : Supervisor
+
+pub record Marked : Type 0 where
+  pub refusal : ℕ
+  pub figures : List ℕ
+  pub supervisor : Supervisor
+
+pub record Traced : Type 0 where
+  pub refusal : ℕ
+  pub trace : List ℕ
 
 -- "Fresh: out of frame (OOF), out of multiframe (OOM), no defects, all counts zero."
 abbrev pub fresh_of : Settings → Supervisor
@@ -29,6 +45,10 @@ blank_options = record { thr = 1; degm = 2; mode = 0; disabled = false; names = 
 
 abbrev pub blank_supervisor : Supervisor
 blank_supervisor = fresh_of (record { k = 1; section = blank_options; path = blank_options })
+
+-- a fresh supervisor under what is asked for
+abbrev pub provisioned_as : ℕ → Request → Request → List ℕ → List ℕ → Supervisor
+provisioned_as k section path snames pnames = fresh_of (record { k = k; section = options_of section snames; path = options_of path pnames })
 
 -- provisioning: refusals 5 to 10, or a fresh supervisor
 unfoldable pub provision_of : ℕ → Request → Request → List ℕ → List ℕ → Provisioned
@@ -85,6 +105,10 @@ marked_layers s =
 -- the supervisor after an accepted mark
 unfoldable pub next_second : Supervisor → Supervisor
 next_second s = record { settings = s.settings; layers = marked_layers s; second = fresh_second; seconds = s.seconds + 1 }
+
+-- 4 "a mark when 4,294,967,295 seconds are closed"
+unfoldable pub mark_refusal : Supervisor → ℕ
+mark_refusal s = first_of (check 4 (ltb s.seconds 4294967295) ∷ [])
 
 -- a mark: "A mark closes each second." 4 "a mark when 4,294,967,295 seconds are closed"
 unfoldable pub mark_of : Supervisor → Marked

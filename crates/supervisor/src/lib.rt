@@ -1,11 +1,15 @@
-// The supervisor of one OTUk and the ODUk path in it: provisioning, step, mark, and reading an accepted trace, by value.
+// The supervisor of one OTUk and the ODUk path in it: provisioning, step, mark, and reading an accepted trace.
 #![tactic(auto)]
 
-ghost use Rattle.std.specs.Prelude.{◌≡◌, length};
-ghost use Rattle.frame.specs.Layers.{degraded};
-ghost use Rattle.supervisor.specs.Supervisor.{fresh_of, blank_options, blank_supervisor, provision_of, step_refusal, step_of, mark_of, layer_at, traced_of};
+ghost use Rattle.std.specs.Prelude.{◌≡◌, cond, eqb, length, ◌+◌, Ok, Err, IfOk, OnOk, OnErr};
+ghost use Rattle.answer.specs.Refusal.{said};
+ghost use Rattle.answer.specs.declared.Refusal.TheVariants.{NameLength};
+ghost use Rattle.causes.specs.Causes.{report_of};
+ghost use Rattle.second.specs.Second.{closed_of, figures_of};
+ghost use Rattle.settings.specs.Settings.{settings_refusal};
+ghost use Rattle.supervisor.specs.Supervisor.{fresh_of, blank_supervisor, provisioned_as, step_refusal, stands_after, frame_of, mark_refusal, next_second, layer_at, trace_refusal};
 
-use answer::checked;
+use answer::{Refusal, test};
 use causes::Report;
 use frame::Layers;
 use layer::Layer;
@@ -21,247 +25,147 @@ pub struct Supervisor {
     pub seconds: u32,
 }
 
-// The answers: `refusal` is document 01's number, 0 where the call is accepted. A refusal hands the supervisor back as it was,
-// with an empty report, empty figures, an empty trace.
-#[derive(Clone, Copy)]
-pub struct Provisioned {
-    pub refusal: u8,
-    pub supervisor: Supervisor,
-}
-
-#[derive(Clone, Copy)]
-pub struct Stepped {
-    pub refusal: u8,
-    pub report: Report,
-    pub supervisor: Supervisor,
-}
-
-#[derive(Clone, Copy)]
-pub struct Marked {
-    pub refusal: u8,
-    pub figures: [u32; 22],
-    pub supervisor: Supervisor,
-}
-
-#[derive(Clone, Copy)]
-pub struct Traced {
-    pub refusal: u8,
-    pub trace: [u8; 64],
-}
-
 // A fresh supervisor under given settings.
-fn fresh(s: Settings) -> Supervisor
-    ensures { result ≡ fresh_of s }
+fn fresh(settings: Settings) -> Supervisor
+    ensures { result ≡ fresh_of settings }
 {
-    let layers = frame::fresh_layers();
-    let open = second::fresh_second();
     Supervisor {
-        settings: s,
-        layers: layers,
-        second: open,
+        settings,
+        layers: frame::fresh_layers(),
+        second: second::fresh_second(),
         seconds: 0,
     }
 }
 
-// The refusal of a frame, 0 where it is accepted.
-#[tactic(auto, unfolding(crate::specs::Supervisor::step_refusal))]
-fn step_refusal(s: Supervisor, overhead: &[u8], flags: u8, sm: u8, pm: u8) -> u8
-    ensures { result ≡ step_refusal s overhead.now flags sm pm }
+// A supervisor that no provisioning made.
+pub fn blank() -> Supervisor
+    ensures { result ≡ blank_supervisor }
 {
-    let four = checked(4, s.second.frames.0 < 400000, 0);
-    let three = checked(3, (sm <= 8) & (pm <= 8), four);
-    let two = checked(2, flags <= 3, three);
-    checked(1, overhead.len() == 64, two)
-}
-
-// One frame.
-#[tactic(auto, unfolding(crate::specs::Supervisor::step_of, crate::specs::Supervisor::frame_of, crate::specs::Supervisor::stands_after))]
-pub fn step(s: Supervisor, overhead: &[u8], flags: u8, sm: u8, pm: u8) -> Stepped
-    ensures { result ≡ step_of s overhead.now flags sm pm }
-{
-    let refusal = step_refusal(s, overhead, flags, sm, pm);
-    if refusal == 0 {
-        let o = overhead::overhead_of(overhead);
-        let settings = s.settings;
-        let before = s.layers;
-        let c = s.second;
-        let a = frame::advance(settings, before, o, flags);
-        let next = a.layers;
-        let standing = a.standing;
-        let report = causes::report_of(standing, sm, pm);
-        let open = second::count(c, standing, o, sm, pm);
-        return Stepped {
-            refusal: 0,
-            report: report,
-            supervisor: Supervisor {
-                settings: settings,
-                layers: next,
-                second: open,
-                seconds: s.seconds,
-            },
-        };
-    }
-    let none = causes::no_report();
-    Stepped {
-        refusal: refusal,
-        report: none,
-        supervisor: s,
-    }
-}
-
-// dDEG decided: a layer at a mark, by its near-end blocks in the second.
-fn degrade(l: Layer, p: Options, near: u32) -> Layer
-    ensures { result ≡ degraded l p near }
-{
-    let d = l.deg;
-    let deg = filter::filter_step(d, p.degm, false, p.thr <= near);
-    let mut n = l;
-    n.deg = deg;
-    n
-}
-
-// A mark: the second is closed and the next one opened.
-#[tactic(auto, unfolding(crate::specs::Supervisor::mark_of, crate::specs::Supervisor::next_second))]
-pub fn mark(s: Supervisor) -> Marked
-    ensures { result ≡ mark_of s }
-{
-    if s.seconds < 4294967295 {
-        let number = s.seconds + 1;
-        let settings = s.settings;
-        let so = settings.section;
-        let po = settings.path;
-        let c = s.second;
-        let done = second::closed(c);
-        let mut layers = s.layers;
-        let mut section = layers.section;
-        let mut path = layers.path;
-        let sl = section.layer;
-        let pl = path.layer;
-        let sdeg = degrade(sl, so, done.section.near.0);
-        let pdeg = degrade(pl, po, done.path.near.0);
-        section.layer = sdeg;
-        path.layer = pdeg;
-        layers.section = section;
-        layers.path = path;
-        let figures = second::figures(number, done);
-        let open = second::fresh_second();
-        return Marked {
-            refusal: 0,
-            figures: figures,
-            supervisor: Supervisor {
-                settings: settings,
-                layers: layers,
-                second: open,
-                seconds: number,
-            },
-        };
-    }
-    Marked {
-        refusal: 4,
-        figures: [0; 22],
-        supervisor: s,
-    }
-}
-
-// The layer of a number: 0 section, otherwise path.
-fn layer_at(s: Supervisor, layer: u8) -> Layer
-    ensures { result ≡ layer_at s layer }
-{
-    if layer == 0 {
-        return s.layers.section.layer;
-    }
-    s.layers.path.layer
-}
-
-// The accepted trace of a layer.
-#[tactic(auto, unfolding(crate::specs::Supervisor::traced_of, crate::specs::Supervisor::trace_refusal))]
-pub fn trace_of(s: Supervisor, layer: u8) -> Traced
-    ensures { result ≡ traced_of s layer }
-{
-    let l = layer_at(s, layer);
-    let thirteen = checked(13, l.known, 0);
-    let refusal = checked(11, layer <= 1, thirteen);
-    if refusal == 0 {
-        let trace = l.accepted;
-        return Traced {
-            refusal: 0,
-            trace: trace,
-        };
-    }
-    Traced {
-        refusal: refusal,
-        trace: [0; 64],
-    }
-}
-
-// The settings that stand in where a provisioning is refused.
-fn blank_options() -> Options
-    ensures { result ≡ blank_options }
-{
-    Options {
+    let options = Options {
         thr: 1,
         degm: 2,
         mode: 0,
         disabled: false,
         names: [0; 32],
-    }
-}
-
-// A supervisor that no provisioning made: what a refused provisioning hands over.
-pub fn blank() -> Supervisor
-    ensures { result ≡ blank_supervisor }
-{
-    let o = blank_options();
+    };
     fresh(Settings {
         k: 1,
-        section: o,
-        path: o,
+        section: options,
+        path: options,
     })
 }
 
-// 32 bytes by value.
-#[tactic(auto, using(answer::proofs::Copies::grow, answer::proofs::Copies::whole))]
-fn names_of(names: &[u8]) -> [u8; 32]
-    requires { length names.now ≡ 32 }
-    ensures { result ≡ names.now }
+// The names, where they are 32 bytes.
+fn names_of(names: &[u8]) -> Result<[u8; 32], Refusal>
+    ensures { result ≡ cond (eqb (length names.now) 32) (Ok names.now) (Err NameLength) }
 {
-    let mut n = [0u8; 32];
-    for i in 0..32 {
-        n[i] = names[i];
-    }
-    n
+    <[u8; 32]>::try_from(names).map_err(|_| Refusal::NameLength)
 }
 
-// A fresh supervisor, as provisioned.
-#[tactic(auto, unfolding(crate::specs::Supervisor::provision_of))]
-pub fn provision(
-    k: u8,
-    section: Request,
-    path: Request,
-    snames: &[u8],
-    pnames: &[u8],
-) -> Provisioned
-    ensures { result ≡ provision_of k section path snames.now pnames.now }
-{
-    let refusal = settings::settings_refusal(k, section, path, snames, pnames);
-    if refusal == 0 {
-        let sn = names_of(snames);
-        let pn = names_of(pnames);
-        let so = settings::options_of(section, sn);
-        let po = settings::options_of(path, pn);
-        let supervisor = fresh(Settings {
-            k: k,
-            section: so,
-            path: po,
-        });
-        return Provisioned {
-            refusal: 0,
-            supervisor: supervisor,
-        };
+impl Supervisor {
+    // A fresh supervisor, as provisioned.
+    #[tactic(auto, unfolding(settings::specs::Settings::settings_refusal))]
+    pub fn provision(
+        k: u8,
+        section: &Request,
+        path: &Request,
+        snames: &[u8],
+        pnames: &[u8],
+    ) -> Result<Supervisor, Refusal>
+        ensures refusal { said result ≡ settings_refusal k section.now path.now snames.now pnames.now }
+        ensures ok { IfOk result (λ s. s ≡ provisioned_as k section.now path.now snames.now pnames.now) }
+    {
+        settings::accepted(k, section, path, snames, pnames)?;
+        let sn = names_of(snames)?;
+        let pn = names_of(pnames)?;
+        Ok(fresh(Settings {
+            k,
+            section: settings::options_of(section, sn),
+            path: settings::options_of(path, pn),
+        }))
     }
-    let none = blank();
-    Provisioned {
-        refusal: refusal,
-        supervisor: none,
+
+    // Whether a frame is accepted: the tests in the order of their numbers.
+    // The overhead, flags and counts go one by one, as C hands them over, and are numbers of any size: refusals 1 to 3 (`step_refusal`) are of such. In a struct that holds
+    // the lent bytes each clause would read `f.now.overhead.now` and `f.now.flags` (tried): no plainer.
+    #[tactic(auto, unfolding(crate::specs::Supervisor::step_refusal))]
+    fn takes(&self, overhead: &[u8], flags: u8, sm: u8, pm: u8) -> Result<(), Refusal>
+        ensures { said result ≡ step_refusal self.now overhead.now flags sm pm }
+    {
+        test(overhead.len() == 64, Refusal::OverheadLength)?;
+        test(flags <= 3, Refusal::UnknownFlags)?;
+        test((sm <= 8) & (pm <= 8), Refusal::TooManyViolations)?;
+        test(self.second.frames.0 < 400000, Refusal::Full)
+    }
+
+    // A frame that is accepted.
+    #[tactic(auto, unfolding(crate::specs::Supervisor::frame_of, crate::specs::Supervisor::stands_after))]
+    pub fn frame(&mut self, overhead: &[u8], flags: u8, sm: u8, pm: u8) -> Report
+        ensures report { result ≡ report_of (stands_after self.old overhead.now flags) sm pm }
+        ensures next { self.new ≡ frame_of self.old overhead.now flags sm pm }
+    {
+        let read = overhead::overhead_of(overhead);
+        let standing = self.layers.advance(&self.settings, &read, flags);
+        self.second.count(&standing, &read, sm, pm);
+        causes::report_of(standing, sm, pm)
+    }
+
+    // One frame.
+    pub fn step(&mut self, overhead: &[u8], flags: u8, sm: u8, pm: u8) -> Result<Report, Refusal>
+        ensures refusal { said result ≡ step_refusal self.old overhead.now flags sm pm }
+        ensures report { IfOk result (λ r. r ≡ report_of (stands_after self.old overhead.now flags) sm pm) }
+        ensures ok { OnOk result (self.new ≡ frame_of self.old overhead.now flags sm pm) }
+        ensures err { OnErr result (self.new ≡ self.old) }
+    {
+        self.takes(overhead, flags, sm, pm)?;
+        Ok(self.frame(overhead, flags, sm, pm))
+    }
+
+    // A mark: the second is closed and the next one opened.
+    #[tactic(auto, unfolding(crate::specs::Supervisor::mark_refusal, crate::specs::Supervisor::next_second))]
+    pub fn mark(&mut self) -> Result<[u32; 22], Refusal>
+        ensures refusal { said result ≡ mark_refusal self.old }
+        ensures figures { IfOk result (λ f. f ≡ figures_of (self.old.seconds + 1) (closed_of self.old.second)) }
+        ensures ok { OnOk result (self.new ≡ next_second self.old) }
+        ensures err { OnErr result (self.new ≡ self.old) }
+    {
+        test(self.seconds < 4294967295, Refusal::Full)?;
+        self.seconds += 1;
+        let done = second::closed(self.second);
+        frame::degrade(
+            &mut self.layers.section.layer,
+            &self.settings.section,
+            done.section.near.0,
+        );
+        frame::degrade(
+            &mut self.layers.path.layer,
+            &self.settings.path,
+            done.path.near.0,
+        );
+        self.second = second::fresh_second();
+        Ok(second::figures(self.seconds, done))
+    }
+
+    // The layer of a number: 0 section, otherwise path. A number, and no enum: refusal 11 (`trace_refusal`) is of others.
+    fn layer(&self, layer: u8) -> &Layer
+        ensures { result.now ≡ layer_at self.now layer }
+    {
+        if layer == 0 {
+            &self.layers.section.layer
+        } else {
+            &self.layers.path.layer
+        }
+    }
+
+    // The accepted trace of a layer.
+    #[tactic(auto, unfolding(crate::specs::Supervisor::trace_refusal))]
+    pub fn trace(&self, layer: u8) -> Result<&[u8; 64], Refusal>
+        ensures refusal { said result ≡ trace_refusal self.now layer }
+        ensures ok { IfOk result (λ t. t.now ≡ (layer_at self.now layer).accepted) }
+    {
+        let l = self.layer(layer);
+        test(layer <= 1, Refusal::UnknownLayer)?;
+        test(l.known, Refusal::NoTrace)?;
+        Ok(&l.accepted)
     }
 }

@@ -1,3 +1,4 @@
+pub mod Answered
 pub mod Refusals
 pub mod Refuted
 pub mod Turns

@@ -1,18 +1,24 @@
 -- The refusals of a level's provisioning, by those of a supervisor's. Assumes nothing.
-use Prim.Native.Nat.{ℕ, ◌<◌}
+use Prim.Native.Nat.{ℕ, ◌-◌, ◌<◌, ◌≤◌}
 use mathlib.Core.Path.{◌≡◌, refl}
-use mathlib.Core.Bool.{Bool, true, false, cond, ◌&&◌}
+use mathlib.Core.Bool.{Bool, true, false, cond, not, ◌&&◌}
 use mathlib.Core.List.{List, [], ◌∷◌, ◌++◌}
 use native.Mathlib.Omega.{arith}
 use lib.Dec.{leb, ltb, eqb}
-use lib.ListN.{length}
-use borrow.Author.Tests.{eqb-true, ltb-true, ne_eqb}
+use lib.ListN.{length, set}
+use Rattle.std.proofs.lemmas.Bool.{le-leb}
+use borrow.Author.Tests.{eqb-true, leb-true, ltb-true, ne_eqb}
 use Rattle.answer.specs.Checks.{Check, first_of}
 use Rattle.answer.proofs.Checks.{within, passed}
 use Rattle.answer.proofs.Cond.{by_cond, and_left, and_right, not_so}
 use Rattle.settings.specs.Settings.{ceiling_of, thr_good, degm_good, settings_refusal}
 use Rattle.settings.specs.declared.Request.{Request}
-use Rattle.tandem.specs.Tandem.{request_checks, place_checks, request_refusal, give_refusal, record_refusal}
+use Rattle.settings.proofs.Ranges.{provisioned_in}
+use Rattle.causes.specs.Causes.{report_of}
+use Rattle.supervisor.specs.Supervisor.{step_refusal, stands_after, frame_of, step_of}
+use Rattle.tandem.specs.Levels.{is_level, level_at, free_at, placed_at, low_to}
+use Rattle.tandem.specs.Tandem.{request_checks, place_checks, request_refusal, give_refusal, record_refusal, frame_checks, frame_refusal}
+use Rattle.tandem.specs.declared.Level.{Level}
 use Rattle.tandem.specs.declared.Tandem.{Tandem}
 
 -- the tests of one list, then those of another: the second is asked where nothing is refused by the first
@@ -50,12 +56,49 @@ pub request_other : (k : ℕ) (r : Request) (names : List ℕ) → (leb 1 k && l
 unfolding request_refusal thr_good
 request_other k r names e = rw (request_same 3 r names refl, ceiling_other k e)
 
+-- so they are what is asked for under the k that is held
+pub request_held : (k : ℕ) (r : Request) (names : List ℕ)
+    → settings_refusal (cond (leb 1 k && leb k 3) k 3) r r names names ≡ request_refusal k r names
+request_held k r names =
+    by_cond (λ (x : ℕ). settings_refusal x r r names names ≡ request_refusal k r names) (leb 1 k && leb k 3) (request_same k r names) (request_other k r names)
+
+-- an accepted request has 32 bytes of names
+pub names_held : (k : ℕ) (r : Request) (names : List ℕ) → settings_refusal k r r names names ≡ 0 → length names ≡ 32
+names_held k r names e = (provisioned_in k r r names names e).section.names
+
+-- a provisioning's tests: from C those of the request first, by a record those of the place
+pub give_by : (t : Tandem) (n : ℕ) (r : Request) (names : List ℕ)
+    → give_refusal t n r names
+    ≡ cond (eqb (request_refusal t.base.settings.k r names) 0) (first_of (place_checks t n)) (request_refusal t.base.settings.k r names)
+unfolding give_refusal request_refusal
+give_by t n r names = first_after 10 (request_checks t.base.settings.k r names) (place_checks t n) refl
+
+pub record_by : (t : Tandem) (n : ℕ) (r : Request) (names : List ℕ)
+    → record_refusal t n r names
+    ≡ cond (eqb (first_of (place_checks t n)) 0) (request_refusal t.base.settings.k r names) (first_of (place_checks t n))
+unfolding record_refusal request_refusal
+record_by t n r names = first_after 18 (place_checks t n) (request_checks t.base.settings.k r names) refl
+
+-- a level that is free is one of the six
+pub free_range : (ls : List Level) (n : ℕ) → free_at ls n ≡ true → (1 ≤ n) × (n ≤ 6)
+free_range ls n e =
+    let i = and_left (is_level n) (not (level_at ls n).given) e in
+    (leb-true 1 n (and_left (leb 1 n) (leb n 6) i), leb-true n 6 (and_right (leb 1 n) (leb n 6) i))
+
+-- a level in its place
+pub placed : (ls : List Level) (n m : ℕ) (l : Level) → 1 ≤ n → n ≤ 6 → m ≡ n → set ls (m - 1) l ≡ placed_at ls n l
+placed ls n m l low high e = rw (e, le-leb 1 n low, le-leb n 6 high)
+
+-- line, section and path refuse no frame that is accepted with its six counts
+pub framed_ok : (t : Tandem) (overhead : List ℕ) (flags sm pm : ℕ) (counts : List ℕ) → frame_refusal t overhead flags sm pm counts ≡ 0
+    → step_of t.base overhead flags sm pm
+    ≡ record { refusal = 0; report = report_of (stands_after t.base overhead flags) sm pm; supervisor = frame_of t.base overhead flags sm pm }
+unfolding frame_refusal step_of step_refusal
+framed_ok t overhead flags sm pm counts e =
+    let a = passed 4 (frame_checks t overhead flags sm pm counts) refl e in
+    rw (a.0, a.1.0, and_left (leb sm 8 && leb pm 8) (low_to 6 counts) a.1.1.0, a.1.1.1.0)
+
 -- an accepted provisioning has 32 bytes of names
 pub give_names : (t : Tandem) (n : ℕ) (r : Request) (names : List ℕ) → give_refusal t n r names ≡ 0 → length names ≡ 32
 unfolding give_refusal
 give_names t n r names e = eqb-true _ _ (passed 18 (request_checks t.base.settings.k r names ++ place_checks t n) refl e).1.1.1.1.0
-
-pub record_names : (t : Tandem) (n : ℕ) (r : Request) (names : List ℕ) → record_refusal t n r names ≡ 0 → length names ≡ 32
-unfolding record_refusal
-record_names t n r names e =
-    eqb-true _ _ (passed 18 (place_checks t n ++ request_checks t.base.settings.k r names) refl e).1.1.1.1.1.1.0

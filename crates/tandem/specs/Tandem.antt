@@ -7,22 +7,50 @@ use Rattle.alignment.specs.declared.Multi.{Multi}
 use Rattle.settings.specs.Settings.{thr_good, degm_good, options_of}
 use Rattle.settings.specs.declared.Request.{Request}
 use Rattle.causes.specs.Causes.{path_ssf, no_report}
+use Rattle.causes.specs.declared.Report.{Report}
 use Rattle.frame.specs.Layers.{standing_of}
 use Rattle.level.specs.Level.{level_stands, level_actions, level_causes}
 use Rattle.level.specs.declared.Status.TheVariants.{Clear}
 use Rattle.level.specs.declared.LevelStands.{LevelStands}
-use Rattle.supervisor.specs.Supervisor.{step_of, mark_of}
+use Rattle.level.specs.declared.LevelActions.{LevelActions}
+use Rattle.level.specs.declared.LevelCauses.{LevelCauses}
+use Rattle.supervisor.specs.Supervisor.{Stepped, Marked, Traced, step_of, mark_of}
 use Rattle.supervisor.specs.declared.Supervisor.{Supervisor}
-use Rattle.supervisor.specs.declared.Stepped.{Stepped}
-use Rattle.supervisor.specs.declared.Marked.{Marked}
-use Rattle.supervisor.specs.declared.Traced.{Traced}
 use Rattle.tandem.specs.Levels.{given_level, blank_level, framed_levels, marked_levels, level_figures, is_level, level_at, free_at, placed_at, low_to}
 use Rattle.tandem.specs.declared.Level.{Level}
 use Rattle.tandem.specs.declared.Tandem.{Tandem}
-use Rattle.tandem.specs.declared.Given.{Given}
-use Rattle.tandem.specs.declared.TandemStepped.{TandemStepped}
-use Rattle.tandem.specs.declared.TandemMarked.{TandemMarked}
-use Rattle.tandem.specs.declared.LevelReport.{LevelReport}
+use Rattle.tandem.specs.declared.TandemReport.{TandemReport}
+use Rattle.tandem.specs.declared.LevelReport as accepted
+
+-- the answers as the C edge has them: the refusal's number, 0 where the call is accepted
+pub record Given : Type 0 where
+  pub refusal : ℕ
+  pub tandem : Tandem
+
+pub record TandemStepped : Type 0 where
+  pub refusal : ℕ
+  pub report : Report
+  pub stands : List LevelStands
+  pub tandem : Tandem
+
+pub record TandemMarked : Type 0 where
+  pub refusal : ℕ
+  pub figures : List ℕ
+  pub tandem : Tandem
+
+pub record LevelReport : Type 0 where
+  pub refusal : ℕ
+  pub given : Bool
+  pub stands : LevelStands
+  pub actions : LevelActions
+  pub causes : LevelCauses
+
+-- what they report where the call is accepted
+abbrev pub reported : TandemStepped → TandemReport
+reported a = record { report = a.report; stands = a.stands }
+
+abbrev pub told : LevelReport → accepted.LevelReport
+told a = record { given = a.given; stands = a.stands; actions = a.actions; causes = a.causes }
 
 -- a supervisor with no level provisioned, and no flags met
 abbrev pub fresh_tandem : Supervisor → Tandem
@@ -88,6 +116,16 @@ frame_checks t overhead flags sm pm counts =
 
 unfoldable pub frame_refusal : Tandem → List ℕ → ℕ → ℕ → ℕ → List ℕ → ℕ
 frame_refusal t overhead flags sm pm counts = first_of (frame_checks t overhead flags sm pm counts)
+
+-- a frame's refusals by the frames that the open second holds
+unfoldable pub refusal_by : ℕ → List ℕ → ℕ → ℕ → ℕ → List ℕ → ℕ
+refusal_by frames overhead flags sm pm counts =
+    first_of
+    (check 1 (eqb (length overhead) 64)
+    ∷ check 2 (leb flags 3)
+    ∷ check 3 (leb sm 8 && leb pm 8 && low_to 6 counts)
+    ∷ check 4 (ltb frames 400000)
+    ∷ [])
 
 -- of a level that is not provisioned nothing stands
 abbrev pub nothing : LevelStands

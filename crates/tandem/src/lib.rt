@@ -1,20 +1,25 @@
-// The supervisor with six tandem levels: provisioning, step, mark, a level's report and its accepted trace, by value.
+// The supervisor with six tandem levels: provisioning, step, mark, a level's report and its accepted trace, in place.
 #![tactic(auto)]
 
-ghost use Rattle.std.specs.Prelude.{◌≡◌, cond, [], ◌++◌, ◌+◌, ◌≤◌, length};
-ghost use Rattle.answer.specs.Over.{over};
-ghost use Rattle.tandem.specs.Levels.{given_level, blank_level, stepped_level, marked_level, five_of, framed_levels, marked_levels, level_figures, listed_of, listed_in, level_at, free_at, placed_at, low_to};
-ghost use Rattle.tandem.specs.Tandem.{fresh_tandem, begun, request_refusal, give_refusal, record_refusal, with_level, give_of, recorded_of, frame_refusal, framed_of, marked_of, ssf_now, nothing, level_shown, shown_levels, level_report, level_traced};
+ghost use Rattle.std.specs.Prelude.{◌≡◌, cond, leb, ◌&&◌, [], ◌∷◌, ◌++◌, ◌≤◌, length, false, true, IfOk, OnOk, OnErr, MatchOption};
+ghost use Rattle.std.specs.List.{list_all};
+ghost use Rattle.answer.specs.Checks.{first_of};
+ghost use Rattle.overhead.specs.Overhead.{level_field};
+ghost use Rattle.answer.specs.Refusal.{said};
+ghost use Rattle.settings.specs.Settings.{options_of};
+ghost use Rattle.tandem.specs.Levels.{given_level, blank_level, stepped_level, marked_level, five_of, framed_levels, marked_levels, level_figures, listed_of, is_level, level_at, free_at, low_to};
+ghost use Rattle.tandem.specs.Tandem.{fresh_tandem, begun, request_refusal, place_checks, give_of, recorded_of, refusal_by, frame_refusal, framed_of, marked_of, ssf_now, nothing, level_shown, shown_levels, level_report, level_traced, reported, told};
 
 use alignment::Multi;
-use answer::checked;
+use answer::{Refusal, test};
+use arrayvec::ArrayVec;
 use causes::Report;
-use level::{LevelActions, LevelCauses, LevelSecond, LevelStands, LevelState, Status};
-use overhead::Field;
+use level::{LevelActions, LevelCauses, LevelSecond, LevelStands, LevelState};
 use settings::{Options, Request};
-use supervisor::{Supervisor, Traced};
+use supervisor::Supervisor;
 
 // A level: whether it is provisioned, and what is kept of it.
+// A flag and no Option: the bytes of a level that is not provisioned are read back and written as they were (`tandem_trip` of bays).
 #[derive(Clone, Copy)]
 pub struct Level {
     pub given: bool,
@@ -23,7 +28,7 @@ pub struct Level {
     pub second: LevelSecond,
 }
 
-// The supervisor of line, section and path, the flags of the last accepted frame, and levels 1 to 6.
+// The supervisor of line, section and path, the flags of the last accepted frame (a number, as in `supervisor`), and levels 1 to 6.
 #[derive(Clone, Copy)]
 pub struct Tandem {
     pub base: Supervisor,
@@ -31,40 +36,16 @@ pub struct Tandem {
     pub levels: [Level; 6],
 }
 
-// The answers: `refusal` is the number of documents 01 and 02, 0 where the call is accepted. A refusal hands the supervisor back as it was.
+// What an accepted frame reports; `stands` is what stands of levels 1 to 6 after it.
 #[derive(Clone, Copy)]
-pub struct Given {
-    pub refusal: u8,
-    pub tandem: Tandem,
-}
-
-// `stands` is what stands of levels 1 to 6 after the frame.
-#[derive(Clone, Copy)]
-pub struct TandemStepped {
-    pub refusal: u8,
+pub struct TandemReport {
     pub report: Report,
     pub stands: [LevelStands; 6],
-    pub tandem: Tandem,
 }
 
-// The twenty-two figures of line, section and path, then five for each level.
-#[derive(Clone, Copy)]
-pub struct TandemMarked {
-    pub refusal: u8,
-    pub figures: [u32; 52],
-    pub tandem: Tandem,
-}
-
-// The figures of an S line: the first n of 52, zeros behind them.
-#[derive(Clone, Copy)]
-pub struct Listed {
-    pub figures: [u32; 52],
-    pub n: usize,
-}
-
+// What is told of a level.
 #[derive(Clone, Copy)]
 pub struct LevelReport {
-    pub refusal: u8,
     pub given: bool,
     pub stands: LevelStands,
     pub actions: LevelActions,
@@ -72,16 +53,14 @@ pub struct LevelReport {
 }
 
 // A level as it is provisioned.
-fn given_level(p: Options) -> Level
-    ensures { result ≡ given_level p }
+fn given_level(options: Options) -> Level
+    ensures { result ≡ given_level options }
 {
-    let state = level::fresh_level();
-    let second = level::fresh_level_second();
     Level {
         given: true,
-        options: p,
-        state: state,
-        second: second,
+        options,
+        state: level::fresh_level(),
+        second: level::fresh_level_second(),
     }
 }
 
@@ -89,504 +68,345 @@ fn given_level(p: Options) -> Level
 fn blank_level() -> Level
     ensures { result ≡ blank_level }
 {
-    let mut l = given_level(Options {
-        thr: 1,
-        degm: 2,
-        mode: 0,
-        disabled: false,
-        names: [0; 32],
-    });
-    l.given = false;
-    l
+    Level {
+        given: false,
+        ..given_level(supervisor::blank().settings.section)
+    }
 }
 
 // A supervisor with no level provisioned.
 pub fn fresh_tandem(s: Supervisor) -> Tandem
     ensures { result ≡ fresh_tandem s }
 {
-    let blank = blank_level();
     Tandem {
         base: s,
         flags: 0,
-        levels: [blank; 6],
+        levels: [blank_level(); 6],
     }
-}
-
-// Level n; blank where there is none of that number.
-fn level_at(ls: [Level; 6], n: u8) -> Level
-    ensures { result ≡ level_at ls n }
-{
-    let blank = blank_level();
-    if 1 <= n {
-        if n <= 6 {
-            let at = n as usize - 1;
-            return ls[at];
-        }
-        return blank;
-    }
-    blank
-}
-
-// A level in the place of its number.
-fn put_level(ls: [Level; 6], n: u8, l: Level) -> [Level; 6]
-    ensures { result ≡ placed_at ls n l }
-{
-    if 1 <= n {
-        if n <= 6 {
-            let at = n as usize - 1;
-            let mut out = ls;
-            out[at] = l;
-            return out;
-        }
-        return ls;
-    }
-    ls
-}
-
-// Whether a frame or a mark was accepted.
-fn is_begun(s: Supervisor) -> bool
-    ensures { result ≡ begun s }
-{
-    (0 < s.seconds) | (0 < s.second.frames.0)
-}
-
-// The refusals 6 to 10 of a level's provisioning; DEGThr of a k that is none of the three is held to that of 3.
-#[tactic(auto, using(crate::proofs::Refusals::request_same, crate::proofs::Refusals::request_other))]
-fn request_refusal(k: u8, r: Request, names: &[u8]) -> u8
-    ensures { result ≡ request_refusal k r names.now }
-{
-    if (1 <= k) & (k <= 3) {
-        return settings::settings_refusal(k, r, r, names, names);
-    }
-    settings::settings_refusal(3, r, r, names, names)
-}
-
-// Whether level n is one of the six, and not provisioned yet.
-fn is_free(ls: [Level; 6], n: u8) -> bool
-    ensures { result ≡ free_at ls n }
-{
-    let l = level_at(ls, n);
-    (1 <= n) & (n <= 6) & !l.given
-}
-
-// The refusal of a level's provisioning from C: in number order.
-#[tactic(auto, unfolding(crate::specs::Tandem::give_refusal, crate::specs::Tandem::request_refusal))]
-fn give_refusal(t: Tandem, n: u8, r: Request, names: &[u8]) -> u8
-    ensures { result ≡ give_refusal t n r names.now }
-{
-    let base = t.base;
-    let ls = t.levels;
-    let begun = is_begun(base);
-    let free = is_free(ls, n);
-    let six = request_refusal(base.settings.k, r, names);
-    let eighteen = checked(18, free, 0);
-    let sixteen = checked(16, !begun, eighteen);
-    checked(six, six == 0, sixteen)
-}
-
-// The refusal of a level's provisioning by a record: 16 and 18 ahead of the rest.
-#[tactic(auto, unfolding(crate::specs::Tandem::record_refusal, crate::specs::Tandem::request_refusal))]
-fn record_refusal(t: Tandem, n: u8, r: Request, names: &[u8]) -> u8
-    ensures { result ≡ record_refusal t n r names.now }
-{
-    let base = t.base;
-    let ls = t.levels;
-    let begun = is_begun(base);
-    let free = is_free(ls, n);
-    let six = request_refusal(base.settings.k, r, names);
-    let eighteen = checked(18, free, six);
-    checked(16, !begun, eighteen)
-}
-
-// Level n provisioned.
-#[tactic(auto, using(codec::proofs::Overs::all_in))]
-fn with_level(t: Tandem, n: u8, r: Request, names: &[u8]) -> Tandem
-    requires { length names.now ≡ 32 }
-    ensures { result ≡ with_level t n r names.now }
-{
-    let kept = codec::strip_in(names, 0);
-    let options = settings::options_of(r, kept);
-    let new = given_level(options);
-    let ls = t.levels;
-    let after = put_level(ls, n, new);
-    let mut next = t;
-    next.levels = after;
-    next
-}
-
-// A level provisioned from C.
-#[tactic(auto, using(crate::proofs::Refusals::give_names), unfolding(crate::specs::Tandem::given_by))]
-pub fn give(t: Tandem, n: u8, r: Request, names: &[u8]) -> Given
-    ensures { result ≡ give_of t n r names.now }
-{
-    let refusal = give_refusal(t, n, r, names);
-    if refusal == 0 {
-        let next = with_level(t, n, r, names);
-        return Given {
-            refusal: 0,
-            tandem: next,
-        };
-    }
-    Given {
-        refusal: refusal,
-        tandem: t,
-    }
-}
-
-// A level provisioned by a record of a trace.
-#[tactic(auto, using(crate::proofs::Refusals::record_names), unfolding(crate::specs::Tandem::given_by))]
-pub fn give_record(t: Tandem, n: u8, r: Request, names: &[u8]) -> Given
-    ensures { result ≡ recorded_of t n r names.now }
-{
-    let refusal = record_refusal(t, n, r, names);
-    if refusal == 0 {
-        let next = with_level(t, n, r, names);
-        return Given {
-            refusal: 0,
-            tandem: next,
-        };
-    }
-    Given {
-        refusal: refusal,
-        tandem: t,
-    }
-}
-
-// A level after a frame, where it is provisioned.
-#[tactic(auto, unfolding(crate::specs::Levels::stepped_level))]
-fn one_step(l: Level, ssf: bool, m: Multi, f: Field, violations: u8) -> Level
-    ensures { result ≡ stepped_level l ssf m f violations }
-{
-    if l.given {
-        let s = l.state;
-        let p = l.options;
-        let c = l.second;
-        let a = level::level_step(s, p, ssf, m, f);
-        let state = a.state;
-        let stands = a.stands;
-        let second = level::level_count(c, stands, f.bei, violations);
-        return Level {
-            given: true,
-            options: p,
-            state: state,
-            second: second,
-        };
-    }
-    l
-}
-
-// The six levels after a frame: the level at index i has number i + 1. One that is not provisioned costs a test, and is not moved.
-fn levels_step(ls: [Level; 6], ssf: bool, m: Multi, overhead: &[u8], counts: [u8; 6]) -> [Level; 6]
-    ensures { result ≡ framed_levels ls ssf m overhead.now counts }
-{
-    let mut levels = ls;
-    for i in 0..6 {
-        if levels[i].given {
-            let f = overhead::level_field(overhead, i as u8 + 1);
-            let l = levels[i];
-            let next = one_step(l, ssf, m, f, counts[i]);
-            levels[i] = next;
-        }
-    }
-    levels
 }
 
 // Of a level that is not provisioned nothing stands.
 pub fn nothing_stands() -> LevelStands
     ensures { result ≡ nothing }
 {
-    LevelStands {
-        ssf: false,
-        status: Status::Clear,
-        tim: false,
-        disabled: false,
-        bdi: false,
-        iae: false,
-        biae: false,
-        deg: false,
-    }
+    LevelStands::default()
 }
 
-// What stands of a level; nothing where it is not provisioned.
-#[tactic(auto, unfolding(crate::specs::Tandem::level_shown))]
-fn shown(l: Level, ssf: bool) -> LevelStands
-    ensures { result ≡ level_shown l ssf }
+// Whether a frame or a mark was accepted.
+fn is_begun(s: &Supervisor) -> bool
+    ensures { result ≡ begun s.now }
 {
-    if l.given {
-        let s = l.state;
-        let p = l.options;
-        return level::level_stands(s, p, ssf);
-    }
-    nothing_stands()
+    (0 < s.seconds) | (0 < s.second.frames.0)
 }
 
-// What stands of each of the six levels.
-#[tactic(auto, using(answer::proofs::Each::turned))]
-fn levels_shown(ls: [Level; 6], ssf: bool) -> [LevelStands; 6]
-    ensures { result ≡ shown_levels ls ssf }
+// The k by which DEGThr is held: one that is none of the three is taken for 3.
+fn held(k: u8) -> u8
+    ensures { result ≡ cond (leb 1 k && leb k 3) k 3 }
 {
-    let none = nothing_stands();
-    let mut stands = [none; 6];
-    for i in 0..6 {
-        if ls[i].given {
-            let l = ls[i];
-            let d = shown(l, ssf);
-            stands[i] = d;
+    if (1 <= k) & (k <= 3) { k } else { 3 }
+}
+
+// What is kept of a level's request, or the refusals 6 to 10.
+#[tactic(auto, using(crate::proofs::Refusals::request_held, crate::proofs::Refusals::names_held))]
+fn asked(k: u8, r: &Request, names: &[u8]) -> Result<Options, Refusal>
+    ensures refusal { said result ≡ request_refusal k r.now names.now }
+    ensures options { IfOk result (λ p. p ≡ options_of r.now names.now) }
+{
+    settings::accepted(held(k), r, r, names, names)?;
+    let names = <[u8; 32]>::try_from(names).map_err(|_| Refusal::NameLength)?;
+    Ok(settings::options_of(r, names))
+}
+
+impl Level {
+    // A frame, where the level is provisioned, and what stands after it; n is the level's number.
+    #[tactic(auto, unfolding(crate::specs::Levels::stepped_level, crate::specs::Tandem::level_shown))]
+    fn step(&mut self, ssf: bool, m: &Multi, overhead: &[u8], n: u8, violations: u8) -> LevelStands
+        ensures level { self.new ≡ stepped_level self.old ssf m.now (level_field overhead.now n) violations }
+        ensures stands { result ≡ level_shown self.new ssf }
+    {
+        if !self.given {
+            return nothing_stands();
         }
+        let f = overhead::level_field(overhead, n);
+        let stands = self.state.step(&self.options, ssf, m, &f);
+        self.second.count(&stands, f.bei, violations);
+        stands
+    }
+
+    // What stands of the level; nothing where it is not provisioned.
+    #[tactic(auto, unfolding(crate::specs::Tandem::level_shown))]
+    fn stands(&self, ssf: bool) -> LevelStands
+        ensures { result ≡ level_shown self.now ssf }
+    {
+        if self.given {
+            self.state.stands(&self.options, ssf)
+        } else {
+            nothing_stands()
+        }
+    }
+
+    // A mark, where the level is provisioned.
+    #[tactic(auto, unfolding(crate::specs::Levels::marked_level))]
+    fn mark(&mut self)
+        ensures { self.new ≡ marked_level self.old }
+    {
+        if self.given {
+            self.state.mark(&self.options, &self.second);
+            self.second = level::fresh_level_second();
+        }
+    }
+
+    // The five figures of the level, zeros where it is not provisioned.
+    #[tactic(auto, unfolding(crate::specs::Levels::five_of))]
+    fn five(&self) -> [u32; 5]
+        ensures { result ≡ five_of self.now }
+    {
+        if !self.given {
+            return [0; 5];
+        }
+        let b = level::level_closed(self.second);
+        [
+            b.near.0,
+            b.far.0,
+            u32::from(b.neards),
+            u32::from(b.fards),
+            b.sum.0,
+        ]
+    }
+}
+
+// The six levels after a frame, and what stands of them: the level at index i has number i + 1. One that is not provisioned costs a test, and is not moved.
+fn levels_step(
+    levels: &mut [Level; 6],
+    ssf: bool,
+    m: &Multi,
+    overhead: &[u8],
+    counts: &[u8; 6],
+) -> [LevelStands; 6]
+    ensures levels { levels.new ≡ framed_levels levels.old ssf m.now overhead.now counts.now }
+    ensures stands { result ≡ shown_levels levels.new ssf }
+{
+    let mut stands = [nothing_stands(); 6];
+    for (i, level) in levels.iter_mut().enumerate() {
+        stands[i] = level.step(ssf, m, overhead, i as u8 + 1, counts[i]);
     }
     stands
 }
 
-// Each of the six counts is at most 8.
-#[tactic(auto, unfolding(crate::specs::Levels::low_to))]
-fn all_low(counts: [u8; 6]) -> bool
-    ensures { result ≡ low_to 6 counts }
-{
-    let mut low = true;
-    for i in 0..6 {
-        let x = counts[i] <= 8;
-        low = low & x;
-    }
-    low
-}
-
-// The refusal of a frame, 0 where it is accepted.
-#[tactic(auto, unfolding(crate::specs::Tandem::frame_refusal))]
-fn frame_refusal(t: Tandem, overhead: &[u8], flags: u8, sm: u8, pm: u8, counts: [u8; 6]) -> u8
-    ensures { result ≡ frame_refusal t overhead.now flags sm pm counts }
-{
-    let low = all_low(counts);
-    let four = checked(4, t.base.second.frames.0 < 400000, 0);
-    let three = checked(3, (sm <= 8) & (pm <= 8) & low, four);
-    let two = checked(2, flags <= 3, three);
-    checked(1, overhead.len() == 64, two)
-}
-
-// One frame; `counts` are the violation counts of levels 1 to 6.
-#[tactic(auto, unfolding(crate::specs::Tandem::framed_of))]
-pub fn step(t: Tandem, overhead: &[u8], flags: u8, sm: u8, pm: u8, counts: [u8; 6]) -> TandemStepped
-    ensures { result ≡ framed_of t overhead.now flags sm pm counts }
-{
-    let refusal = frame_refusal(t, overhead, flags, sm, pm, counts);
-    if refusal == 0 {
-        let base = t.base;
-        let before = t.levels;
-        let a = supervisor::step(base, overhead, flags, sm, pm);
-        let report = a.report;
-        let next = a.supervisor;
-        let m = next.layers.align.multi;
-        let ssf = report.path.ssf;
-        let after = levels_step(before, ssf, m, overhead, counts);
-        let stands = levels_shown(after, ssf);
-        return TandemStepped {
-            refusal: 0,
-            report: report,
-            stands: stands,
-            tandem: Tandem {
-                base: next,
-                flags: flags,
-                levels: after,
-            },
-        };
-    }
-    let none = causes::no_report();
-    let blank = nothing_stands();
-    TandemStepped {
-        refusal: refusal,
-        report: none,
-        stands: [blank; 6],
-        tandem: t,
-    }
-}
-
-// A level after a mark, where it is provisioned.
-#[tactic(auto, unfolding(crate::specs::Levels::marked_level))]
-fn one_mark(l: Level) -> Level
-    ensures { result ≡ marked_level l }
-{
-    if l.given {
-        let s = l.state;
-        let p = l.options;
-        let c = l.second;
-        let state = level::level_mark(s, p, c);
-        let second = level::fresh_level_second();
-        return Level {
-            given: true,
-            options: p,
-            state: state,
-            second: second,
-        };
-    }
-    l
-}
-
 // The six levels after a mark.
-fn levels_mark(ls: [Level; 6]) -> [Level; 6]
-    ensures { result ≡ marked_levels ls }
+fn levels_mark(levels: &mut [Level; 6])
+    ensures { levels.new ≡ marked_levels levels.old }
 {
-    let mut levels = ls;
-    for i in 0..6 {
-        if levels[i].given {
-            let l = levels[i];
-            let next = one_mark(l);
-            levels[i] = next;
-        }
+    for level in levels.iter_mut() {
+        level.mark();
     }
-    levels
 }
 
-// The five figures of a level, zeros where it is not provisioned.
-#[tactic(auto, unfolding(crate::specs::Levels::five_of))]
-fn five_of(l: Level) -> [u32; 5]
-    ensures { result ≡ five_of l }
+// Each of the six counts is at most 8.
+fn all_low(counts: &[u8; 6]) -> bool
+    ensures { result ≡ list_all (λ count. leb count 8) counts.now }
 {
-    if l.given {
-        let c = l.second;
-        let b = level::level_closed(c);
-        return [b.near.0, b.far.0, b.neards as u32, b.fards as u32, b.sum.0];
-    }
-    [0; 5]
+    counts.iter().all(|&count| count <= 8)
 }
 
-// Numbers written over others from a place on.
-#[tactic(auto, using(answer::proofs::Overs::over_nil, answer::proofs::Overs::over_suc))]
-fn put(out: &mut [u32], at: usize, src: &[u32])
-    requires { at + length src.now ≤ length out.old }
-    ensures { out.new ≡ over out.old at src.now }
+// Whether a frame is accepted where the open second holds so many: the tests in the order of their numbers.
+#[tactic(auto, using(crate::proofs::Turns::six_low), unfolding(crate::specs::Tandem::refusal_by))]
+pub fn frame_accepted(
+    frames: u32,
+    overhead: &[u8],
+    flags: u8,
+    sm: u8,
+    pm: u8,
+    counts: &[u8; 6],
+) -> Result<(), Refusal>
+    ensures refusal { said result ≡ refusal_by frames overhead.now flags sm pm counts.now }
+    ensures overhead { OnOk result (length overhead.now ≡ 64) }
 {
-    for i in 0..src.len() {
-        out[at + i] = src[i];
-    }
+    test(overhead.len() == 64, Refusal::OverheadLength)?;
+    test(flags <= 3, Refusal::UnknownFlags)?;
+    test(
+        (sm <= 8) & (pm <= 8) & all_low(counts),
+        Refusal::TooManyViolations,
+    )?;
+    test(frames < 400000, Refusal::Full)
 }
 
 // The figures of a mark: the supervisor's, then the levels'.
-#[tactic(auto, using(answer::proofs::Overs::over_nil), unfolding(crate::specs::Levels::level_figures))]
-fn figures_of(base: [u32; 22], ls: [Level; 6]) -> [u32; 52]
-    ensures { result ≡ base ++ level_figures ls }
+#[tactic(auto, unfolding(crate::specs::Levels::level_figures))]
+fn figures_of(base: &[u32; 22], levels: &[Level; 6]) -> [u32; 52]
+    ensures { result ≡ base.now ++ level_figures levels.now }
 {
-    let mut out = [0u32; 52];
-    put(&mut out, 0, &base);
-    for i in 0..6 {
-        let l = ls[i];
-        let five = five_of(l);
-        put(&mut out, 22 + 5 * i, &five);
+    // By place: of what `chunks_exact_mut` and `as_chunks_mut` lend, the library says only the length afterwards.
+    let mut out = [0; 52];
+    out[..22].copy_from_slice(base);
+    for (i, level) in levels.iter().enumerate() {
+        out[22 + 5 * i..27 + 5 * i].copy_from_slice(&level.five());
     }
     out
 }
 
-// A mark.
-#[tactic(auto, unfolding(crate::specs::Tandem::marked_of))]
-pub fn mark(t: Tandem) -> TandemMarked
-    ensures { result ≡ marked_of t }
-{
-    let base = t.base;
-    let a = supervisor::mark(base);
-    if a.refusal == 0 {
-        let before = t.levels;
-        let next = a.supervisor;
-        let own = a.figures;
-        let figures = figures_of(own, before);
-        let after = levels_mark(before);
-        return TandemMarked {
-            refusal: 0,
-            figures: figures,
-            tandem: Tandem {
-                base: next,
-                flags: t.flags,
-                levels: after,
-            },
-        };
-    }
-    TandemMarked {
-        refusal: a.refusal,
-        figures: [0; 52],
-        tandem: t,
-    }
-}
-
-// A level's figures written over others from a place on, where it is provisioned; the place behind them is handed back.
-#[tactic(auto, using(answer::proofs::Overs::over_nil))]
-fn put_group(out: &mut [u32], at: usize, given: bool, five: &[u32]) -> usize
-    requires { at + length five.now ≤ length out.old }
-    ensures { (out.new ≡ over out.old at (cond given five.now [])) × (result ≡ at + length (cond given five.now [])) }
-{
-    if given {
-        put(out, at, five);
-        return at + five.len();
-    }
-    at
-}
-
 // The figures of an S line, of those of a mark: the twenty-two, then the five of each provisioned level.
 #[tactic(auto, unfolding(crate::specs::Levels::given_groups))]
-pub fn listed_figures(ls: [Level; 6], figures: [u32; 52]) -> Listed
-    ensures { result ≡ listed_in (listed_of ls figures) }
+pub fn listed_figures(levels: &[Level; 6], figures: &[u32; 52]) -> ArrayVec<u32, 52>
+    ensures { result.items ≡ listed_of levels.now figures.now }
 {
-    let mut out = [0u32; 52];
-    put(&mut out, 0, &figures[0..22]);
-    let mut n = 22;
-    for i in 0..6 {
-        let given = ls[i].given;
-        n = put_group(&mut out, n, given, &figures[22 + 5 * i..27 + 5 * i]);
+    let mut listed = ArrayVec::new();
+    listed.try_extend_from_slice(&figures[..22]).unwrap();
+    for (i, level) in levels.iter().enumerate() {
+        if level.given {
+            let five = &figures[22 + 5 * i..27 + 5 * i];
+            listed.try_extend_from_slice(five).unwrap();
+        }
     }
-    Listed { figures: out, n: n }
+    listed
 }
 
-// The path's SSF as it stands.
-#[tactic(auto, unfolding(crate::specs::Tandem::ssf_now, frame::specs::Layers::standing_of, frame::specs::Layers::section_stands))]
-fn ssf_now(s: Supervisor, flags: u8) -> bool
-    ensures { result ≡ ssf_now s flags }
-{
-    let a = s.layers.align;
-    let l = s.layers.section.layer;
-    let names = s.settings.section.names;
-    let n = alignment::frames_of(s.settings.k);
-    let line = frame::line_of(a, n, flags);
-    let ssf = causes::ssf_of(line);
-    let tim = layer::tim(l, s.settings.section.mode, names);
-    let acts = causes::tim_acts(tim, s.settings.section.disabled);
-    ssf | acts
-}
-
-// What is told of level n.
-#[tactic(auto, unfolding(crate::specs::Tandem::level_report))]
-pub fn level_report(t: Tandem, n: u8) -> LevelReport
-    ensures { result ≡ level_report t n }
-{
-    let base = t.base;
-    let ls = t.levels;
-    let l = level_at(ls, n);
-    let ssf = ssf_now(base, t.flags);
-    let stands = shown(l, ssf);
-    let actions = level::level_actions(stands);
-    let causes = level::level_causes(stands);
-    let refusal = checked(18, (1 <= n) & (n <= 6), 0);
-    LevelReport {
-        refusal: refusal,
-        given: l.given,
-        stands: stands,
-        actions: actions,
-        causes: causes,
+impl Tandem {
+    // Level n, 1 to 6.
+    fn level(&self, n: u8) -> Option<&Level>
+        ensures { MatchOption result (is_level n ≡ false) (λ l. (is_level n ≡ true) × (l.now ≡ level_at self.now.levels n)) }
+    {
+        self.levels.get(usize::from(n.checked_sub(1)?))
     }
-}
 
-// The accepted trace of level n.
-#[tactic(auto, unfolding(crate::specs::Tandem::level_traced))]
-pub fn level_trace(t: Tandem, n: u8) -> Traced
-    ensures { result ≡ level_traced t n }
-{
-    let ls = t.levels;
-    let l = level_at(ls, n);
-    let refusal = checked(13, l.given & l.state.layer.known, 0);
-    if refusal == 0 {
-        let trace = l.state.layer.accepted;
-        return Traced {
-            refusal: 0,
-            trace: trace,
-        };
+    // Whether level n is one of the six, and not provisioned yet.
+    fn is_free(&self, n: u8) -> bool
+        ensures { result ≡ free_at self.now.levels n }
+    {
+        match self.level(n) {
+            Some(level) => !level.given,
+            None => false,
+        }
     }
-    Traced {
-        refusal: refusal,
-        trace: [0; 64],
+
+    // Whether level n can be provisioned: 16 and 18.
+    #[tactic(auto, using(crate::proofs::Refusals::free_range))]
+    fn has_place(&self, n: u8) -> Result<(), Refusal>
+        ensures refusal { said result ≡ first_of (place_checks self.now n) }
+        ensures range { OnOk result ((1 ≤ n) × (n ≤ 6)) }
+    {
+        test(!is_begun(&self.base), Refusal::OutOfTurn)?;
+        test(self.is_free(n), Refusal::UnknownLevel)
+    }
+
+    // A level provisioned from C: in number order.
+    #[tactic(auto, using(crate::proofs::Refusals::give_by, crate::proofs::Refusals::placed), unfolding(crate::specs::Tandem::given_by))]
+    pub fn give(&mut self, n: u8, r: &Request, names: &[u8]) -> Result<(), Refusal>
+        ensures refusal { said result ≡ (give_of self.old n r.now names.now).refusal }
+        ensures ok { OnOk result (self.new ≡ (give_of self.old n r.now names.now).tandem) }
+        ensures err { OnErr result (self.new ≡ self.old) }
+    {
+        let options = asked(self.base.settings.k, r, names)?;
+        self.has_place(n)?;
+        self.levels[usize::from(n) - 1] = given_level(options);
+        Ok(())
+    }
+
+    // A level provisioned by a record of a trace: 16 and 18 ahead of the rest.
+    #[tactic(auto, using(crate::proofs::Refusals::record_by, crate::proofs::Refusals::placed), unfolding(crate::specs::Tandem::given_by))]
+    pub fn give_record(&mut self, n: u8, r: &Request, names: &[u8]) -> Result<(), Refusal>
+        ensures refusal { said result ≡ (recorded_of self.old n r.now names.now).refusal }
+        ensures ok { OnOk result (self.new ≡ (recorded_of self.old n r.now names.now).tandem) }
+        ensures err { OnErr result (self.new ≡ self.old) }
+    {
+        self.has_place(n)?;
+        let kept = asked(self.base.settings.k, r, names)?;
+        self.levels[usize::from(n) - 1] = given_level(kept);
+        Ok(())
+    }
+
+    // Whether a frame is accepted.
+    #[tactic(auto, unfolding(crate::specs::Tandem::frame_refusal, crate::specs::Tandem::refusal_by))]
+    fn takes(
+        &self,
+        overhead: &[u8],
+        flags: u8,
+        sm: u8,
+        pm: u8,
+        counts: &[u8; 6],
+    ) -> Result<(), Refusal>
+        ensures { said result ≡ frame_refusal self.now overhead.now flags sm pm counts.now }
+    {
+        frame_accepted(self.base.second.frames.0, overhead, flags, sm, pm, counts)
+    }
+
+    // One frame; `counts` are the violation counts of levels 1 to 6.
+    #[tactic(auto, using(crate::proofs::Refusals::framed_ok), unfolding(crate::specs::Tandem::framed_of))]
+    pub fn step(
+        &mut self,
+        overhead: &[u8],
+        flags: u8,
+        sm: u8,
+        pm: u8,
+        counts: &[u8; 6],
+    ) -> Result<TandemReport, Refusal>
+        ensures refusal { said result ≡ (framed_of self.old overhead.now flags sm pm counts.now).refusal }
+        ensures report { IfOk result (λ r. r ≡ reported (framed_of self.old overhead.now flags sm pm counts.now)) }
+        ensures ok { OnOk result (self.new ≡ (framed_of self.old overhead.now flags sm pm counts.now).tandem) }
+        ensures err { OnErr result (self.new ≡ self.old) }
+    {
+        self.takes(overhead, flags, sm, pm, counts)?;
+        self.flags = flags;
+        let report = self.base.frame(overhead, flags, sm, pm);
+        let ssf = report.path.ssf;
+        let m = &self.base.layers.align.multi;
+        let stands = levels_step(&mut self.levels, ssf, m, overhead, counts);
+        Ok(TandemReport { report, stands })
+    }
+
+    // A mark: the twenty-two figures of line, section and path, then five for each level.
+    #[tactic(auto, unfolding(crate::specs::Tandem::marked_of, supervisor::specs::Supervisor::mark_of, supervisor::specs::Supervisor::mark_refusal))]
+    pub fn mark(&mut self) -> Result<[u32; 52], Refusal>
+        ensures refusal { said result ≡ (marked_of self.old).refusal }
+        ensures figures { IfOk result (λ f. f ≡ (marked_of self.old).figures) }
+        ensures ok { OnOk result (self.new ≡ (marked_of self.old).tandem) }
+        ensures err { OnErr result (self.new ≡ self.old) }
+    {
+        let own = self.base.mark()?;
+        let figures = figures_of(&own, &self.levels);
+        levels_mark(&mut self.levels);
+        Ok(figures)
+    }
+
+    // The path's SSF as it stands.
+    #[tactic(auto, unfolding(crate::specs::Tandem::ssf_now, frame::specs::Layers::standing_of, frame::specs::Layers::section_stands))]
+    fn ssf_now(&self) -> bool
+        ensures { result ≡ ssf_now self.now.base self.now.flags }
+    {
+        let settings = &self.base.settings;
+        let layers = &self.base.layers;
+        let line = frame::line_of(layers.align, alignment::frames_of(settings.k), self.flags);
+        let tim = layers
+            .section
+            .layer
+            .tim(settings.section.mode, &settings.section.names);
+        causes::ssf_of(line) | causes::tim_acts(tim, settings.section.disabled)
+    }
+
+    // What is told of level n.
+    #[tactic(auto, unfolding(crate::specs::Tandem::level_report))]
+    pub fn level_report(&self, n: u8) -> Result<LevelReport, Refusal>
+        ensures refusal { said result ≡ (level_report self.now n).refusal }
+        ensures report { IfOk result (λ r. r ≡ told (level_report self.now n)) }
+    {
+        let level = self.level(n).ok_or(Refusal::UnknownLevel)?;
+        let stands = level.stands(self.ssf_now());
+        Ok(LevelReport {
+            given: level.given,
+            stands,
+            actions: level::level_actions(stands),
+            causes: level::level_causes(stands),
+        })
+    }
+
+    // The accepted trace of level n.
+    #[tactic(auto, unfolding(crate::specs::Tandem::level_traced))]
+    pub fn level_trace(&self, n: u8) -> Result<&[u8; 64], Refusal>
+        ensures refusal { said result ≡ (level_traced self.now n).refusal }
+        ensures trace { IfOk result (λ t. t.now ≡ (level_traced self.now n).trace) }
+    {
+        let level = self.level(n).ok_or(Refusal::NoTrace)?;
+        test(level.given & level.state.layer.known, Refusal::NoTrace)?;
+        Ok(&level.state.layer.accepted)
     }
 }

@@ -16,10 +16,10 @@ use Rattle.tandem.specs.Tandem as tandem
 use Rattle.late.specs.Late.{late_marked}
 use Rattle.record.specs.Record.{record_of, of_kind, records_from}
 use Rattle.trace.specs.declared.State.{State}
-use Rattle.trace.specs.declared.Run.{Run}
+use Rattle.trace.specs.declared.Run as code
 use Rattle.trace.specs.declared.Stop.{Stop}
 use Rattle.trace.specs.declared.Stop.TheVariants as stop
-use Rattle.trace.specs.Scan.{start_of, answered_of, stepped_of, framed_of, marked_of, provisioned_of, given_of, taken_of, run_over, run_of}
+use Rattle.trace.specs.Scan.{Run, ran, start_of, answered_of, stepped_of, framed_of, marked_of, provisioned_of, given_of, taken_of, run_over, run_of}
 use Rattle.trace.proofs.start.Kinds as start_kinds
 use Rattle.trace.proofs.start.Reads as start_reads
 use Rattle.trace.proofs.scan.Kinds as scan_kinds
@@ -63,9 +63,9 @@ reported_in stop.Told = 0
 reported_in (stop.Refused number offset) = 0
 
 -- scanned from the start, with no record told
-module _ (κs : Lfts 1) (a : Dens κs scan_kinds.ps) (s : AtExit (ended_of 1 scan_kinds.ps scan_kinds.r) κs) (y : Run) (e : scan_reads.Post κs a y s)
-    (quiet : a.0 ≡ false) (st : a.1.0 ≡ start_of) (from : a.1.1.1.0 ≡ 0) where
-  is : (bytes : List ℕ) → a.1.1.0.now ≡ bytes → y ≡ run_of false bytes 0 0 start_of
+module _ (κs : Lfts 2) (a : Dens κs scan_kinds.ps) (s : AtExit (ended_of 2 scan_kinds.ps scan_kinds.r) κs) (y : code.Run) (e : scan_reads.Post κs a y s)
+    (quiet : a.0 ≡ false) (st : a.1.0.now ≡ start_of) (from : a.1.1.1.0 ≡ 0) where
+  is : (bytes : List ℕ) → a.1.1.0.now ≡ bytes → ran y s.1.0.now ≡ run_of false bytes 0 0 start_of
   is bytes b = e ∙ rw (quiet, st, from, b)
 
   -- the offset is that of the record refused, not of the one after it
@@ -83,7 +83,7 @@ module _ (κs : Lfts 1) (a : Dens κs scan_kinds.ps) (s : AtExit (ended_of 1 sca
       omega arith
 
   -- the section is provisioned before the path
-  pub layers_swapped : a.1.1.0.now ≡ one_provisioning → y.state.sup.tandem.base.settings.section.thr ≡ 2 → ⊥
+  pub layers_swapped : a.1.1.0.now ≡ one_provisioning → s.1.0.now.sup.tandem.base.settings.section.thr ≡ 2 → ⊥
   unfolding run_over records_from taken_of record_of of_kind provisioned_of answered_of provision_of settings_refusal thr_good ceiling_of degm_good
   layers_swapped b f =
       let h : ◌≡◌ {A = ℕ} 2 1 = sym f ∙ ap (λ (r : Run). r.state.sup.tandem.base.settings.section.thr) (is one_provisioning b) in
@@ -104,9 +104,9 @@ abbrev pub met : ℕ → State
 met kind = record { begun = true; kind = kind; sup = start_of.sup; last = start_of.last; standing = start_of.standing; levels = start_of.levels }
 
 -- scanned from there
-module _ (kind : ℕ) (κs : Lfts 1) (a : Dens κs scan_kinds.ps) (s : AtExit (ended_of 1 scan_kinds.ps scan_kinds.r) κs) (y : Run) (e : scan_reads.Post κs a y s)
-    (quiet : a.0 ≡ false) (from : a.1.1.1.0 ≡ 0) (st : a.1.0 ≡ met kind) where
-  on : (bytes : List ℕ) → a.1.1.0.now ≡ bytes → y ≡ run_of false bytes 0 0 (met kind)
+module _ (kind : ℕ) (κs : Lfts 2) (a : Dens κs scan_kinds.ps) (s : AtExit (ended_of 2 scan_kinds.ps scan_kinds.r) κs) (y : code.Run) (e : scan_reads.Post κs a y s)
+    (quiet : a.0 ≡ false) (from : a.1.1.1.0 ≡ 0) (st : a.1.0.now ≡ met kind) where
+  on : (bytes : List ℕ) → a.1.1.0.now ≡ bytes → ran y s.1.0.now ≡ run_of false bytes 0 0 (met kind)
   on bytes b = e ∙ rw (quiet, st, from, b)
 
   -- in a trace 18 comes before 7
@@ -117,21 +117,21 @@ module _ (kind : ℕ) (κs : Lfts 1) (a : Dens κs scan_kinds.ps) (s : AtExit (e
       omega arith
 
 -- with frames of kind 5, one of kind 1 is refused, and 19 comes before 3; with frames of kind 1, one of kind 5 is; and a refused frame settles no kind
-module _ (κs : Lfts 1) (a : Dens κs scan_kinds.ps) (s : AtExit (ended_of 1 scan_kinds.ps scan_kinds.r) κs) (y : Run) (e : scan_reads.Post κs a y s)
+module _ (κs : Lfts 2) (a : Dens κs scan_kinds.ps) (s : AtExit (ended_of 2 scan_kinds.ps scan_kinds.r) κs) (y : code.Run) (e : scan_reads.Post κs a y s)
     (quiet : a.0 ≡ false) (from : a.1.1.1.0 ≡ 0) where
-  pub count_before_kind : a.1.0 ≡ met 5 → a.1.1.0.now ≡ frame_high → y.stop ≡ stop.Refused 3 0 → ⊥
+  pub count_before_kind : a.1.0.now ≡ met 5 → a.1.1.0.now ≡ frame_high → y.stop ≡ stop.Refused 3 0 → ⊥
   unfolding run_over records_from taken_of record_of of_kind framed_of
   count_before_kind st b f =
       let h : ◌≡◌ {A = ℕ} 3 19 = ap number_in (sym f ∙ ap (λ (r : Run). r.stop) (on 5 κs a s y e quiet from st frame_high b)) in
       omega arith
 
-  pub five_after_one : a.1.0 ≡ met 1 → a.1.1.0.now ≡ level_frame_flags → y.stop ≡ stop.Refused 2 0 → ⊥
+  pub five_after_one : a.1.0.now ≡ met 1 → a.1.1.0.now ≡ level_frame_flags → y.stop ≡ stop.Refused 2 0 → ⊥
   unfolding run_over records_from taken_of record_of of_kind framed_of
   five_after_one st b f =
       let h : ◌≡◌ {A = ℕ} 2 19 = ap number_in (sym f ∙ ap (λ (r : Run). r.stop) (on 1 κs a s y e quiet from st level_frame_flags b)) in
       omega arith
 
-  pub refused_settles : a.1.0 ≡ met 0 → a.1.1.0.now ≡ level_frame_flags → y.state.kind ≡ 5 → ⊥
+  pub refused_settles : a.1.0.now ≡ met 0 → a.1.1.0.now ≡ level_frame_flags → s.1.0.now.kind ≡ 5 → ⊥
   unfolding run_over records_from taken_of record_of of_kind framed_of stepped_of answered_of tandem.framed_of frame_refusal
   refused_settles st b f =
       let h : ◌≡◌ {A = ℕ} 5 0 = sym f ∙ ap (λ (r : Run). r.state.kind) (on 0 κs a s y e quiet from st level_frame_flags b) in
@@ -154,19 +154,19 @@ one_closed = record {
     base : Supervisor
     base = start_of.sup.tandem.base
 
-module _ (κs : Lfts 1) (a : Dens κs scan_kinds.ps) (s : AtExit (ended_of 1 scan_kinds.ps scan_kinds.r) κs) (y : Run) (e : scan_reads.Post κs a y s)
+module _ (κs : Lfts 2) (a : Dens κs scan_kinds.ps) (s : AtExit (ended_of 2 scan_kinds.ps scan_kinds.r) κs) (y : code.Run) (e : scan_reads.Post κs a y s)
     (quiet : a.0 ≡ false) (from : a.1.1.1.0 ≡ 0) (b : a.1.1.0.now ≡ one_mark) where
   -- the first mark reports nothing
-  pub first_reports : a.1.0 ≡ met 0 → y.stop ≡ stop.Reported → ⊥
+  pub first_reports : a.1.0.now ≡ met 0 → y.stop ≡ stop.Reported → ⊥
   unfolding run_over records_from taken_of record_of of_kind marked_of answered_of late_marked tandem.marked_of mark_of
   first_reports st f =
       let h : ◌≡◌ {A = ℕ} 1 0 = ap reported_in (sym f ∙ ap (λ (r : Run). r.stop) (on 0 κs a s y e quiet from st one_mark b)) in
       omega arith
 
   -- a mark reports the second closed before it, not the one that it closes
-  pub own_reported : a.1.0 ≡ one_closed → get_or y.state.last 0 0 ≡ 2 → ⊥
+  pub own_reported : a.1.0.now ≡ one_closed → get_or s.1.0.now.last 0 0 ≡ 2 → ⊥
   unfolding run_over records_from taken_of record_of of_kind marked_of answered_of late_marked tandem.marked_of mark_of
   own_reported st f =
-      let is : y ≡ run_of false one_mark 0 0 one_closed = e ∙ rw (quiet, st, from, b) in
+      let is : ran y s.1.0.now ≡ run_of false one_mark 0 0 one_closed = e ∙ rw (quiet, st, from, b) in
       let h : ◌≡◌ {A = ℕ} 2 1 = sym f ∙ ap (λ (r : Run). get_or r.state.last 0 0) is in
       omega arith

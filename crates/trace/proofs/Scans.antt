@@ -2,17 +2,17 @@
 use Prim.Native.Nat.{ℕ, ◌+◌, ◌≤◌, ◌<◌}
 use mathlib.Core.Path.{◌≡◌, refl, ◌∙◌, ap, sym}
 use mathlib.Core.Bool.{Bool, true, false}
+use mathlib.Core.Logic.{◌⊎◌, inl, inr}
 use mathlib.Core.List.{List, ◌++◌}
 use native.Mathlib.Omega.{arith}
 use lib.ListN.{length, drop, length-drop, drop_of_length-le}
 use lib.Seq.{drop-drop}
 use borrow.Author.Tests.{eq-eqb, ne_eqb}
-use Rattle.record.specs.Record.{record_of, record_at, records_from, records_of, refusal_in, size_of, body_of, frames_in, Within}
-use Rattle.trace.specs.Scan.{refused_of, applied_of, taken_of, run_over, run_of}
+use Rattle.record.specs.Record.{record_of, record_at, records_from, records_of, length_of, refusal_in, size_of, body_of, frames_in, Within}
+use Rattle.trace.specs.Scan.{Taken, refused_of, applied_of, taken_of, run_over, run_of}
 use Rattle.record.specs.declared.Record.{Record}
 use Rattle.record.specs.declared.Record.TheVariants.{Frame, Mark, Provisioning, Level, LevelFrame, Refused}
 use Rattle.trace.specs.declared.State.{State}
-use Rattle.trace.specs.declared.Taken.{Taken}
 use Rattle.trace.specs.declared.Stop.TheVariants as stop
 use Rattle.record.proofs.Records.{Whole, whole_record, within_at, record_append, body_append, records_next}
 
@@ -38,6 +38,14 @@ sized st ys e = sized_by st ys (body_of (record_of ys) ys) (record_of ys) (whole
 
 pub some_bytes : (st : State) (ys : List ℕ) → (taken_of st ys).refusal ≡ 0 → 0 < length ys
 some_bytes st ys e = let z = sized st ys e in omega (arith, z.some, z.long)
+
+-- a record that is none refused has a length
+pub has_length : (r : Record) → (r ≡ Frame) ⊎ ((r ≡ Mark) ⊎ ((r ≡ Provisioning) ⊎ ((r ≡ Level) ⊎ (r ≡ LevelFrame)))) → 0 < length_of r
+has_length r (inl e) = rw e (omega arith)
+has_length r (inr (inl e)) = rw e (omega arith)
+has_length r (inr (inr (inl e))) = rw e (omega arith)
+has_length r (inr (inr (inr (inl e)))) = rw e (omega arith)
+has_length r (inr (inr (inr (inr e)))) = rw e (omega arith)
 
 -- a record that is refused itself is taken with its refusal
 applied_refused : (st : State) (body : List ℕ) (r : Record) (n : ℕ) → r ≡ Refused n → applied_of st r body ≡ refused_of st n

@@ -1,6 +1,6 @@
 -- What the acceptance of a record says: it stands in its place, the call accepts, and the state after it is the call's. Assumes nothing.
 use Prim.Native.Nat.{ℕ}
-use mathlib.Core.Path.{◌≡◌, refl}
+use mathlib.Core.Path.{◌≡◌, refl, sym}
 use mathlib.Core.Bool.{Bool, true, false}
 use mathlib.Core.List.{List}
 use native.Mathlib.Omega.{arith}
@@ -8,10 +8,10 @@ use lib.Dec.{eqb}
 use borrow.Author.Tests.{eqb-true, eqb-false}
 use Rattle.answer.proofs.Cond.{by_cond}
 use Rattle.tandem.specs.Tandem as tandem
-use Rattle.late.specs.Late.{fresh_late, late_marked}
+use Rattle.late.specs.Late.{LateMarked, fresh_late, late_marked, next_report}
+use Rattle.late.specs.declared.Late.{Late}
 use Rattle.trace.specs.declared.State.{State}
-use Rattle.trace.specs.declared.Taken.{Taken}
-use Rattle.trace.specs.Scan.{answered_of, step_in, provision_in, give_in, alike, beside, after_frame, after_mark, after_giving, stepped_of, framed_of, marked_of, provisioned_of, given_of}
+use Rattle.trace.specs.Scan.{Taken, answered_of, step_in, provision_in, give_in, alike, beside, after_frame, after_mark, after_giving, stepped_of, framed_of, marked_of, provisioned_of, given_of}
 
 -- a record accepted, with the state after it
 abbrev pub accepted_of : Bool → State → Taken
@@ -27,6 +27,12 @@ module _ (st next : State) (n : ℕ) (told : Bool) where
   unfolding answered_of
   answered_good =
       by_cond (λ (t : Taken). t.refusal ≡ 0 → (n ≡ 0) × (t ≡ accepted_of told next)) (eqb n 0) (λ e _. (eqb-true n 0 e, refl)) (λ e z. absurd (eqb-false n 0 e z))
+
+-- an accepted mark's figures are those of the next report
+pub late_report : (s : Late) → 0 ≡ (late_marked s).refusal → (late_marked s).figures ≡ next_report s
+unfolding late_marked
+late_report s =
+    by_cond (λ (a : LateMarked). 0 ≡ a.refusal → a.figures ≡ next_report s) (eqb (tandem.marked_of s.tandem).refusal 0) (λ _ _. refl) (λ b e. absurd (eqb-false _ _ b (sym e)))
 
 -- an accepted frame, mark, provisioning and level's provisioning
 pub record Framed (st : State) (kind : ℕ) (body counts : List ℕ) (t : Taken) : Type 0 where

@@ -1,23 +1,43 @@
 -- A record taken, and the scan of a buffer's records (document 01, "Trace records and the listing"; kinds 4 and 5 document 02, K1; the pending
 -- second K3). Assumes nothing.
-use Rattle.std.specs.Prelude.{ℕ, ◌+◌, Bool, true, false, cond, ◌||◌, List, [], ◌∷◌, get_or, drop, take, replicate, eqb}
+use Rattle.std.specs.Prelude.{ℕ, ◌+◌, Bool, true, false, cond, ◌||◌, Result, Ok, Err, List, [], ◌∷◌, get_or, drop, take, replicate, eqb}
+use Rattle.answer.specs.declared.Refusal.{Refusal}
+use Rattle.answer.specs.Refusal.{number_of}
 use Rattle.causes.specs.Causes.{nothing_stands}
-use Rattle.supervisor.specs.Supervisor.{blank_supervisor, provision_of}
-use Rattle.supervisor.specs.declared.Provisioned.{Provisioned}
+use Rattle.supervisor.specs.Supervisor.{Provisioned, blank_supervisor, provision_of}
 use Rattle.tandem.specs.Tandem as tandem
+use Rattle.tandem.specs.Tandem.{Given, TandemStepped}
 use Rattle.tandem.specs.declared.Tandem.{Tandem}
-use Rattle.tandem.specs.declared.Given.{Given}
-use Rattle.tandem.specs.declared.TandemStepped.{TandemStepped}
-use Rattle.late.specs.Late.{fresh_late, late_marked}
+use Rattle.late.specs.Late.{LateMarked, fresh_late, late_marked}
 use Rattle.late.specs.declared.Late.{Late}
-use Rattle.late.specs.declared.LateMarked.{LateMarked}
 use Rattle.record.specs.declared.Record.{Record}
 use Rattle.record.specs.declared.Record.TheVariants.{Frame, Mark, Provisioning, Level, LevelFrame, Refused}
 use Rattle.record.specs.Record.{kind_of, record_of, records_of, size_of, body_of, frames_in, section_in, path_in, level_in}
 use Rattle.trace.specs.declared.State.{State}
-use Rattle.trace.specs.declared.Taken.{Taken}
-use Rattle.trace.specs.declared.Run.{Run}
+use Rattle.trace.specs.declared.Run as code
+use Rattle.trace.specs.declared.Stop.{Stop}
 use Rattle.trace.specs.declared.Stop.TheVariants as stop
+
+-- one record taken: its refusal's number, 0 where it was accepted; whether a second was reported with it; the state after it
+pub record Taken : Type 0 where
+  pub refusal : ℕ
+  pub told : Bool
+  pub state : State
+
+-- where and why a run stopped, the frames accepted in it, and the state there
+pub record Run : Type 0 where
+  pub at : ℕ
+  pub frames : ℕ
+  pub stop : Stop
+  pub state : State
+
+-- both as the code has them, with the state that it leaves
+abbrev pub taken_as : Result Bool Refusal → State → Taken
+taken_as (Ok told) st = record { refusal = 0; told = told; state = st }
+taken_as (Err e) st = record { refusal = number_of e; told = false; state = st }
+
+abbrev pub ran : code.Run → State → Run
+ran r st = record { at = r.at; frames = r.frames; stop = r.stop; state = st }
 
 -- what a scan starts with: no provisioning met, no frame accepted, no second pending, and nothing stands
 abbrev pub start_of : State

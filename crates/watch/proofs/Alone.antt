@@ -21,10 +21,9 @@ use Rattle.level.specs.declared.LevelStands.{LevelStands}
 use Rattle.supervisor.specs.Supervisor.{step_refusal, step_of, mark_of, stands_after, frame_of, next_second}
 use Rattle.history.specs.History.{Frame, stands_at, framed}
 use Rattle.tandem.specs.Levels.{given_level, blank_level, stepped_level, marked_level, five_of, level_figures, count_at, frame_rule, mark_rule, framed_levels, marked_levels, level_at, placed_at, low_to}
-use Rattle.tandem.specs.Tandem.{given_by, give_refusal, give_of, frame_checks, frame_refusal, framed_of, marked_of, ssf_now, nothing, level_shown, shown_rule, shown_levels, level_report}
+use Rattle.tandem.specs.Tandem.{Given, given_by, give_refusal, give_of, frame_checks, frame_refusal, framed_of, marked_of, ssf_now, nothing, level_shown, shown_rule, shown_levels, level_report}
 use Rattle.tandem.specs.declared.Level.{Level}
 use Rattle.tandem.specs.declared.Tandem.{Tandem}
-use Rattle.tandem.specs.declared.Given.{Given}
 use Rattle.tandem.proofs.Turns.{five_long}
 use Rattle.watch.specs.Watch.{refusal_at, framed_at, group_at, multi_at, own_frame, own_level, EachOneByOne}
 use Rattle.watch.proofs.Silent.{refusal_same}

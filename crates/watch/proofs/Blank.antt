@@ -21,12 +21,9 @@ use Rattle.level.specs.Status.{status_for}
 use Rattle.supervisor.specs.Supervisor.{mark_of}
 use Rattle.history.specs.History.{Frame}
 use Rattle.tandem.specs.Levels.{given_level, blank_level, stepped_level, marked_level, five_of, level_figures, frame_rule, mark_rule, level_at, placed_at}
-use Rattle.tandem.specs.Tandem.{fresh_tandem, given_by, framed_of, frame_refusal, marked_of, ssf_now, level_shown, level_report, level_traced}
+use Rattle.tandem.specs.Tandem.{Given, TandemStepped, TandemMarked, fresh_tandem, given_by, framed_of, frame_refusal, marked_of, ssf_now, level_shown, level_report, level_traced}
 use Rattle.tandem.specs.declared.Level.{Level}
 use Rattle.tandem.specs.declared.Tandem.{Tandem}
-use Rattle.tandem.specs.declared.Given.{Given}
-use Rattle.tandem.specs.declared.TandemStepped.{TandemStepped}
-use Rattle.tandem.specs.declared.TandemMarked.{TandemMarked}
 use Rattle.watch.specs.Watch.{LevelCall, gives, records, frames, marks, framed_at, tandem_by, tandem_after, never_given, group_at, Nothing, EachUnmonitored, NoneYet}
 use Rattle.watch.proofs.Alone.{at_each, at_number, group_at_lem, given_other, own_figures}
 

@@ -6,16 +6,14 @@ use mathlib.Core.List.{List, [], ◌∷◌}
 use lib.Dec.{leb, eqb, ltb}
 use lib.ListN.{length}
 use Rattle.answer.proofs.Cond.{by_cond, cond_under}
-use Rattle.supervisor.specs.Supervisor.{step_refusal, step_of, mark_of}
+use Rattle.supervisor.specs.Supervisor.{Marked, step_refusal, step_of, mark_of}
 use Rattle.supervisor.specs.declared.Supervisor.{Supervisor}
-use Rattle.supervisor.specs.declared.Marked.{Marked}
 use Rattle.settings.specs.declared.Request.{Request}
 use Rattle.history.specs.History.{Frame, does, frame, mark}
 use Rattle.history.specs.History as base
 use Rattle.tandem.specs.Levels.{low_to}
-use Rattle.tandem.specs.Tandem.{given_by, frame_refusal, framed_of, marked_of}
+use Rattle.tandem.specs.Tandem.{Given, given_by, frame_refusal, framed_of, marked_of}
 use Rattle.tandem.specs.declared.Tandem.{Tandem}
-use Rattle.tandem.specs.declared.Given.{Given}
 use Rattle.watch.specs.Watch.{LevelCall, gives, records, frames, marks, refusal_at, framed_at, tandem_by, tandem_after, without, SameFrame, SameMark, LevelsSilent}
 
 and_true : (a b : Bool) → (a && b && true) ≡ (a && b)

@@ -8,22 +8,17 @@ use Rattle.settings.specs.declared.Options.{Options}
 use Rattle.settings.specs.declared.Request.{Request}
 use Rattle.settings.specs.declared.Settings.{Settings}
 use Rattle.causes.specs.Causes.{path_ssf}
-use Rattle.level.specs.Level.{level_frame, level_count, level_actions, level_causes}
-use Rattle.level.specs.declared.LevelFrame.{LevelFrame}
+use Rattle.level.specs.Level.{LevelFrame, level_frame, level_count, level_actions, level_causes}
 use Rattle.level.specs.declared.LevelStands.{LevelStands}
 use Rattle.level.specs.declared.Status.TheVariants.{Clear}
-use Rattle.supervisor.specs.Supervisor.{fresh_of, step_of, mark_of}
+use Rattle.supervisor.specs.Supervisor.{Stepped, Marked, fresh_of, step_of, mark_of}
 use Rattle.supervisor.specs.declared.Supervisor.{Supervisor}
-use Rattle.supervisor.specs.declared.Stepped.{Stepped}
-use Rattle.supervisor.specs.declared.Marked.{Marked}
 use Rattle.history.specs.History.{Frame, Event, frame, mark, stands_at, framed, Call, does}
 use Rattle.history.specs.History as base
 use Rattle.tandem.specs.Levels.{given_level, blank_level, marked_level, five_of, count_at, level_at, low_to}
-use Rattle.tandem.specs.Tandem.{fresh_tandem, give_refusal, give_of, record_refusal, recorded_of, frame_refusal, framed_of, marked_of, ssf_now, nothing, level_shown, level_report, level_traced}
+use Rattle.tandem.specs.Tandem.{TandemStepped, TandemMarked, fresh_tandem, give_refusal, give_of, record_refusal, recorded_of, frame_refusal, framed_of, marked_of, ssf_now, nothing, level_shown, level_report, level_traced}
 use Rattle.tandem.specs.declared.Level.{Level}
 use Rattle.tandem.specs.declared.Tandem.{Tandem}
-use Rattle.tandem.specs.declared.TandemStepped.{TandemStepped}
-use Rattle.tandem.specs.declared.TandemMarked.{TandemMarked}
 
 -- a call that may change a supervisor with levels: a level provisioned from C or by a record, a frame with six counts, a mark
 pub data LevelCall : Type 0 where

@@ -23,6 +23,11 @@ number width value = record { width = width; value = value }
 abbrev pub one : Bool → Field
 one x = number 1 (flag x)
 
+-- a field of one bit for each flag
+abbrev pub ones : List Bool → List Field
+ones [] = []
+ones (b ∷ bs) = one b ∷ ones bs
+
 -- the fields side by side
 abbrev pub packed : List Field → ℕ
 packed [] = 0

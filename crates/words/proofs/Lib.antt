@@ -1,4 +1,4 @@
 pub mod Ranges
 pub mod Refuted
-pub mod Words
 pub mod Unique
+pub mod Words

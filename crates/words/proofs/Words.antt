@@ -9,10 +9,12 @@ use lib.ListN.{length, get_or, take, drop, replicate, set, length-append}
 use lib.Seq.{take-suc, get_or-drop, length-take-le, take-append-add, drop-append-add}
 use borrow.Author.Tests.{le-leb, lt-leb}
 use Rattle.words.specs.Words.{le4, flat, word_at, words_of, words_in, counted_in, added_in, le8, flat8, number_at, numbers_of, numbers_in}
+use Rattle.std.specs.Int.{to_le_bytes}
+use mir.Syntax.{w32, w64}
 use Rattle.answer.specs.Over.{over}
 use Rattle.codec.proofs.Overs.{over_all, laid_done, laid_kept}
 use Rattle.filter.specs.Filter.{up_of, add_of}
-use Rattle.answer.proofs.Overs.{set_over, over_length, over_over}
+use Rattle.answer.proofs.Overs.{over_over}
 
 pub flat_append : (x y : List ℕ) → flat (x ++ y) ≡ flat x ++ flat y
 unfolding flat
@@ -89,18 +91,25 @@ pub words_beyond : (n at : ℕ) (l : List ℕ) → length l < at + n * 4 → rep
 unfolding words_in
 words_beyond n at l h = rw (lt-leb (at + n * 4) (length l) h)
 
--- four bytes, one by one
-pub put4 : (d : List ℕ) (n a b c e : ℕ) → n + 4 ≤ length d
-    → set (set (set (set d n a) (n + 1) b) (n + 2) c) (n + 3) e ≡ over d n (a ∷ b ∷ c ∷ e ∷ [])
-put4 d n a b c e h =
-    let x1 = set_over d n a (omega arith) in
-    let l1 = over_length d n (a ∷ []) (omega arith) in
-    let x2 = set_over (over d n (a ∷ [])) (n + 1) b (omega arith) ∙ over_over d n (n + 1) (a ∷ []) (b ∷ []) (omega arith) refl in
-    let l2 = over_length d n (a ∷ b ∷ []) (omega arith) in
-    let x3 = set_over (over d n (a ∷ b ∷ [])) (n + 2) c (omega arith) ∙ over_over d n (n + 2) (a ∷ b ∷ []) (c ∷ []) (omega arith) refl in
-    let l3 = over_length d n (a ∷ b ∷ c ∷ []) (omega arith) in
-    let x4 = set_over (over d n (a ∷ b ∷ c ∷ [])) (n + 3) e (omega arith) ∙ over_over d n (n + 3) (a ∷ b ∷ c ∷ []) (e ∷ []) (omega arith) refl in
-    rw (x1, x2, x3) x4
+-- the four bytes as the library has them
+pub four_bytes : (x : ℕ) (v : List ℕ) → v ≡ to_le_bytes w32 x → v ≡ le4 x
+four_bytes x v e = e
+
+-- and the eight
+low_bytes : (x : ℕ) → le4 (x % 4294967296) ≡ le4 x
+low_bytes x =
+    let a : x % 4294967296 % 256 ≡ x % 256 = omega arith in
+    let b : x % 4294967296 / 256 % 256 ≡ x / 256 % 256 = omega arith in
+    let c : x % 4294967296 / 65536 % 256 ≡ x / 65536 % 256 = omega arith in
+    let d : x % 4294967296 / 16777216 % 256 ≡ x / 16777216 % 256 = omega arith in
+    rw (a, b, c, d) refl
+
+high_bytes : (x : ℕ) → le4 (x / 4294967296) ≡ x / 4294967296 % 256 ∷ x / 1099511627776 % 256 ∷ x / 281474976710656 % 256 ∷ x / 72057594037927936 % 256 ∷ []
+high_bytes x = rw (div-div-eq-div-mul x 4294967296 256, div-div-eq-div-mul x 4294967296 65536, div-div-eq-div-mul x 4294967296 16777216) refl
+
+pub eight_bytes : (x : ℕ) (v : List ℕ) → v ≡ to_le_bytes w64 x → v ≡ le8 x
+eight_bytes x v e =
+    e ∙ ap (λ (t : List ℕ). le4 x ++ t) (sym (high_bytes x)) ∙ ap (λ (t : List ℕ). t ++ le4 (x / 4294967296)) (sym (low_bytes x))
 
 -- one more in a word, where it lies within the bytes and where it does not
 pub counted : (d o : List ℕ) (i n x m : ℕ) → i * 4 + 4 ≤ length d → x ≡ word_at d (i * 4) → m ≡ up_of x n → o ≡ over d (i * 4) (le4 m) → o ≡ counted_in d i n
@@ -178,10 +187,6 @@ numbers_room n l h = rw (le-leb (n * 8) (length l) h)
 pub numbers_beyond : (n : ℕ) (l : List ℕ) → length l < n * 8 → replicate n 0 ≡ numbers_in n l
 unfolding numbers_in
 numbers_beyond n l h = rw (lt-leb (n * 8) (length l) h)
-
--- the two words of a number, one after the other
-pub over_halves : (d o p : List ℕ) (at x : ℕ) → at + 8 ≤ length d → o ≡ over d at (le4 (x % 4294967296)) → p ≡ over o (at + 4) (le4 (x / 4294967296)) → p ≡ over d at (le8 x)
-over_halves d o p at x h e f = f ∙ rw e (over_over d at (at + 4) (le4 (x % 4294967296)) (le4 (x / 4294967296)) (omega arith) refl)
 
 -- one number more of numbers that are written over
 pub over_number : (d b' b w : List ℕ) (i : ℕ) → b' ≡ over b (i * 8) (le8 (get_or w i 0)) → b ≡ over d 0 (flat8 (take i w)) → i < length w → b' ≡ over d 0 (flat8 (take (i + 1) w))

@@ -4,9 +4,9 @@ use Rattle.codec.proofs.Overs.{bytes_room}
 use Rattle.bay.specs.Bay.{bay_sound}
 use Rattle.bay.proofs.is_bay.Goals as goal
 
-pub returns-then-b-eq1760 : goal.returns-then-b-eq1760
+pub returns-in-Some : goal.returns-in-Some
 unfolding bay_sound
-returns-then-b-eq1760 c =
-    let t = c.if-b-eq1760.true in
-    let w = bytes_room 32 0 c.args.b.now (omega arith) in
-    rw (eq-eqb _ _ t, c.are_sound-levels.ensures, c.is_below-strip.ensures, c.strip_in-w.ensures, w)
+returns-in-Some c =
+    let whole = c.in-Some.ensures.cases in
+    let w = bytes_room 32 0 c.args.b.now (omega (arith, whole.long)) in
+    rw (eq-eqb _ _ whole.long, c.are_sound.ensures, c.is_below-strip.ensures, c.array_in.ensures, whole.same, w)

@@ -3,8 +3,8 @@ use Rattle.bay.specs.Bay.{blank_bay}
 use Rattle.bay.proofs.Fresh.{blank_laid}
 use Rattle.bay.proofs.lay_bay.Goals as goal
 
-pub returns-then-b-eq1760 : goal.returns-then-b-eq1760
+pub returns-in-Some : goal.returns-in-Some
 unfolding blank_bay
-returns-then-b-eq1760 c =
-    let t = c.if-b-eq1760.true in
-    rw (eq-eqb _ _ t) (blank_laid _ _ _ t c.lay_strip.ensures c.lay_blanks.ensures)
+returns-in-Some c =
+    let whole = c.in-Some.ensures.cases in
+    rw (eq-eqb _ _ whole.long) (blank_laid c.args.b.now _ _ whole.long (rw whole.same at c.lay_bytes.ensures) c.lay_blanks.ensures)

@@ -22,4 +22,4 @@ returns-then-given_at c =
     let a = c.args in
     let e = sym c.given_at.ensures ∙ c.if-given_at.true in
     let r = record_at_lem a.b.now a.n (given_is a.b.now a.n e).1 in
-    rw e (rw r at c.stood_in.ensures)
+    rw e (rw (c.from.ensures, r) at c.stood_in.ensures)

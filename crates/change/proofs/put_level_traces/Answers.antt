@@ -1,30 +1,21 @@
-use Rattle.change.specs.Change.{levels_to, level_trace, trace_change, unseen}
+use Rattle.std.proofs.Common.{◌≡◌, ◌∙◌, ◌+◌, ◌++◌, ◌∷◌, [], length, arith, rules, ℕ, Bor}
+use Rattle.std.proofs.lemmas.List.{length-append}
 use Rattle.change.specs.declared.Seen.{Seen}
+use Rattle.change.specs.Change.{unseen, level_trace, trace_change}
+use Rattle.change.proofs.Counted.{counted_turn}
 use Rattle.change.proofs.Levels.{told_turn}
-use Rattle.listing.proofs.Wrotes.{wrote_none, wrote_more}
-use mathlib.Core.Path.{◌≡◌, refl}
-use Prim.Native.Nat.{ℕ, ◌+◌, ◌*◌}
-use native.Mathlib.Omega.{arith}
-use borrow.Author.Rules.{rules}
 use Rattle.change.proofs.put_level_traces.Goals as goal
 
-pub loop-i-init : goal.loop-i-init
-unfolding levels_to
-loop-i-init c = (omega arith, refl, wrote_none 0 c.args.from c.args.out.now (omega (arith, c.requires)))
-
-pub put_level_trace-at-requires : goal.put_level_trace-at-requires
-put_level_trace-at-requires c =
-    let l = c.loop-i in
-    omega (arith, c.requires, l.invariant.1, l.invariant.2.place, l.invariant.2.bound)
-
 pub loop-i-preserved : goal.loop-i-preserved
-loop-i-preserved c =
+loop-i-preserved g c =
     let l = c.loop-i in
     let a = c.args in
-    let t = told_turn (λ (n : ℕ) (b x : Seen). trace_change (level_trace n) b x) a.before a.after l.i (78 * (l.i + 1)) unseen _ _ (omega arith) (omega arith) (omega arith) l.invariant.2 c.put_level_trace-at.ensures in
-    (omega arith, search rules, t)
-
-pub returns : goal.returns
-returns c =
-    let e : c.loop-i.i ≡ 6 = omega arith in
-    wrote_more 468 (omega arith) (rw e at c.loop-i.invariant.2)
+    let n = length l.yielded in
+    let x : ℕ × (Bor Seen × Bor Seen) = (c.in-Some.i, (c.in-Some.was, c.in-Some.is')) in
+    let t = counted_turn a.before.now a.after.now l.yielded c.into_iter-i-iterator.result l.i-iterator c.next.new.self c.next.result (search rules) (search rules) (search rules) l.yielded_by x c.in-Some.is c.next.ensures.steps in
+    let next : length (l.yielded ++ x ∷ []) ≡ n + 1 = length-append l.yielded (x ∷ []) ∙ (omega arith) in
+    let rule = λ (m : ℕ) (b s : Seen). trace_change (level_trace m) b s in
+    record {
+      so_far = rw next (told_turn a.out.now.items rule a.before.now a.after.now n unseen unseen unseen t.0 t.1 l.invariant.so_far (rw (c.trace_name.ensures, t.2 unseen, t.3 unseen, t.4) at c.put_trace.ensures.items));
+      bound = omega (arith, l.invariant.bound, c.put_trace.ensures.bound, next);
+    }

@@ -1,13 +1,9 @@
+use Rattle.std.proofs.Common.{◌≡◌, ◌++◌, ◌+◌, ◌*◌, ◌≤◌, length}
 use Rattle.change.specs.Change.{levels_to, words_of}
-use Rattle.listing.specs.Wrote.{Wrote}
-use lib.ListN.{length}
-use mathlib.Core.Path.{◌≡◌}
-use Prim.Native.Nat.{◌-◌, ◌*◌, ◌≤◌}
 use Rattle.change.proofs.put_levels.Given as goal
 
 abbrev pub invariant-loop-i : goal.invariant-loop-i
-invariant-loop-i l =
-    (l.i ≤ 6) × (length l.out ≡ length l.initial.out) × Wrote (228 * l.i) l.initial.out l.from l.at l.out (levels_to (words_of l.before l.after) l.i)
-
-abbrev pub decreases-loop-i : goal.decreases-loop-i
-decreases-loop-i l = 6 - l.i
+invariant-loop-i g l = record {
+  so_far : l.out.items ≡ l.fn.out.items ++ levels_to (words_of l.before l.after) (length l.yielded);
+  bound : length l.out.items ≤ length l.fn.out.items + 228 * length l.yielded;
+}

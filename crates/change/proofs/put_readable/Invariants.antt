@@ -1,12 +1,9 @@
+use Rattle.std.proofs.Common.{◌≡◌, ◌++◌, ◌+◌, length, take}
 use Rattle.change.specs.Change.{readable_of}
-use Rattle.answer.specs.Over.{over}
-use lib.ListN.{length, take}
-use mathlib.Core.Path.{◌≡◌}
-use Prim.Native.Nat.{◌-◌, ◌≤◌}
 use Rattle.change.proofs.put_readable.Given as goal
 
-abbrev pub invariant-loop-i : goal.invariant-loop-i
-invariant-loop-i l = (l.i ≤ 64) × (length l.out ≡ length l.initial.out) × (l.out ≡ over l.initial.out l.at (take l.i (readable_of l.trace)))
-
-abbrev pub decreases-loop-i : goal.decreases-loop-i
-decreases-loop-i l = 64 - l.i
+abbrev pub invariant-loop-b : goal.invariant-loop-b
+invariant-loop-b g l = record {
+  so_far : l.out.items ≡ l.fn.out.items ++ readable_of (take l.b-index l.trace);
+  bound : length l.out.items ≡ length l.fn.out.items + l.b-index;
+}

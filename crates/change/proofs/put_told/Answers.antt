@@ -1,30 +1,19 @@
-use Rattle.listing.proofs.Wrotes.{wrote_then, wrote_more, wrote_text}
-use Rattle.listing.specs.Bytes.{bytes}
-use Rattle.change.specs.Change.{told_of}
-use native.Mathlib.Omega.{arith}
+use Rattle.std.proofs.Common.{◌++◌, ◌∷◌, [], ◌∙◌, arith}
+use Rattle.std.proofs.lemmas.List.{append_assoc}
+use Rattle.change.specs.Change.{readable_of, told_of}
 use Rattle.change.proofs.put_told.Goals as goal
 
-pub put_readable-p4-requires : goal.put_readable-p4-requires
-put_readable-p4-requires c =
-    let a = c.args in
-    let p = c.put_text-p1 in
-    let q = c.put_text-p2 in
-    let r = c.put_text-p3 in
-    let x = wrote_text a.out.now a.at (bytes " ") (omega (arith, c.requires.1)) p.ensures in
-    let y = wrote_text p.new.out p.result a.name.now (omega (arith, c.requires.0, c.requires.1, x.place, p.auto.out)) q.ensures in
-    let z = wrote_text q.new.out q.result (bytes "=\"") (omega (arith, c.requires.0, c.requires.1, x.place, y.place, p.auto.out, q.auto.out)) r.ensures in
-    omega (arith, c.requires.0, c.requires.1, x.place, y.place, z.place, p.auto.out, q.auto.out, r.auto.out)
-
-pub returns : goal.returns
+pub returns-clause-items : goal.returns-clause-items
 unfolding told_of
-returns c =
-    let a = c.args in
-    let p = c.put_text-p1 in
-    let q = c.put_text-p2 in
-    let r = c.put_text-p3 in
-    let x = wrote_text a.out.now a.at (bytes " ") (omega (arith, c.requires.1)) p.ensures in
-    let y = wrote_text p.new.out p.result a.name.now (omega (arith, c.requires.0, c.requires.1, x.place, p.auto.out)) q.ensures in
-    let z = wrote_text q.new.out q.result (bytes "=\"") (omega (arith, c.requires.0, c.requires.1, x.place, y.place, p.auto.out, q.auto.out)) r.ensures in
-    let t = c.put_readable-p4 in
-    let u = wrote_text t.new.out t.result (bytes "\"") (omega (arith, c.requires.0, c.requires.1, x.place, y.place, z.place, t.ensures.place, t.ensures.bound, p.auto.out, q.auto.out, r.auto.out, t.auto.out)) c.put_text.ensures in
-    wrote_more 78 (omega (arith, c.requires.0)) (wrote_then x (wrote_then y (wrote_then z (wrote_then t.ensures u))))
+returns-clause-items g c =
+    let o = c.args.out.now.items in
+    let n = c.args.name.now in
+    let r = readable_of c.args.trace.now in
+    let q = 61 ∷ 34 ∷ [] in
+    let e = 34 ∷ [] in
+    let p1 = c.put_text.ensures.whole (omega (arith, c.requires.room)) in
+    let p2 = c.put_text-2.ensures.whole (omega (arith, c.requires.room, c.requires.name, c.put_text.ensures.bound)) in
+    let p3 = c.put_text-3.ensures.whole (omega (arith, c.requires.room, c.requires.name, c.put_text.ensures.bound, c.put_text-2.ensures.bound)) in
+    let p4 = c.put_text-4.ensures.whole (omega (arith, c.requires.room, c.requires.name, c.put_text.ensures.bound, c.put_text-2.ensures.bound, c.put_text-3.ensures.bound, c.put_readable.ensures.bound)) in
+    rw (p4, c.put_readable.ensures.items, p3, p2, p1)
+    (append_assoc (((o ++ 32 ∷ []) ++ n) ++ q) r e ∙ append_assoc ((o ++ 32 ∷ []) ++ n) q (r ++ e) ∙ append_assoc (o ++ 32 ∷ []) n (q ++ (r ++ e)) ∙ append_assoc o (32 ∷ []) (n ++ (q ++ (r ++ e))))

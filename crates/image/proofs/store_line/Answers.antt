@@ -8,6 +8,6 @@ returns c =
     c.head_bytes-head.ensures
     c.align_bytes-align.ensures
     c.counts_of-counts.ensures
-    c.lay_strip.ensures
-    c.lay_strip-2.ensures
+    c.lay_bytes.ensures
+    c.lay_bytes-2.ensures
     c.lay_words.ensures

@@ -4,4 +4,4 @@ use Rattle.late.specs.Late.{void_levels}
 use Rattle.late.proofs.void.Given as goal
 
 abbrev pub invariant-loop-i : goal.invariant-loop-i
-invariant-loop-i l = record { long : length l.n ≡ 51; so_far : l.n ≡ over l.initial.n 21 (void_levels (take l.i l.levels) (drop 21 l.initial.n)) }
+invariant-loop-i l = record { long : length l.v ≡ 51; so_far : l.v ≡ over l.initial.v 21 (void_levels (take l.i l.levels) (drop 21 l.initial.v)) }

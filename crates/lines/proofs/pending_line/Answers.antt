@@ -1,29 +1,19 @@
-use Rattle.lines.proofs.Ends.{pending_some, pending_none}
-use Rattle.late.specs.declared.PendingSecond.{PendingSecond}
-use Rattle.stream.specs.Stream.{listed_in}
-use Rattle.listing.specs.Text.{second_line}
-use Rattle.listing.proofs.Overs.{fitted_is}
-use Rattle.answer.specs.Over.{over}
-use Rattle.answer.proofs.Overs.{over_nil}
-use lib.ListN.{length}
-use mathlib.Core.List.{List}
-use mathlib.Core.Path.{◌∙◌, ap, sym}
-use native.Mathlib.Omega.{arith}
-use Prim.Native.Nat.{ℕ, ◌+◌}
+use Rattle.std.proofs.Common.{◌∙◌, sym}
+use Rattle.std.proofs.lemmas.List.{append-nil}
+use Rattle.late.specs.Late.{pending_of}
+use Rattle.lines.proofs.Ends.{pending_some, pending_none, told_some, told_none}
 use Rattle.lines.proofs.pending_line.Goals as goal
 
-pub returns-then-p : goal.returns-then-p
-returns-then-p c =
-    let a = c.args in
-    let q = c.pending-p in
-    let x = c.listed_line in
-    let l : List ℕ = second_line (listed_in a.st q.result.figures) in
-    let e = ap (λ (r : PendingSecond). second_line (listed_in a.st r.figures)) q.ensures ∙ sym (pending_some a.st (ap (λ (r : PendingSecond). r.told) (sym q.ensures) ∙ c.if-p.true)) in
-    let f = fitted_is (length a.out.now) a.at 1094 l (omega (arith, c.requires)) ∙ e in
-    (x.ensures.0 ∙ ap (λ (w : List ℕ). a.at + length w) f, x.ensures.1, x.ensures.2 ∙ ap (over a.out.now a.at) f)
+pub returns-in-Some-clause-items : goal.returns-in-Some-clause-items
+returns-in-Some-clause-items g c =
+    let st = c.args.st.now in
+    let p = pending_of st.sup in
+    let t = told_some p.told p.figures c.in-Some.figures (sym c.in-Some.is ∙ c.pending.ensures) in
+    rw (pending_some st t.0, t.1) (c.listed_line.ensures.whole c.requires)
 
-pub returns : goal.returns
-returns c =
-    let a = c.args in
-    let q = c.pending-p in
-    rw (pending_none a.st (ap (λ (r : PendingSecond). r.told) (sym q.ensures) ∙ c.if-p.false)) (omega arith, omega arith, over_nil a.out.now a.at)
+pub returns-in_default-clause-items : goal.returns-in_default-clause-items
+returns-in_default-clause-items g c =
+    let st = c.args.st.now in
+    let p = pending_of st.sup in
+    let t = told_none p.told p.figures (sym c.in_default.is ∙ c.pending.ensures) in
+    rw (pending_none st t) (sym (append-nil c.args.out.now.items))

@@ -1,6 +1,10 @@
+use Rattle.std.proofs.Common.{rules, ◌≡◌}
+use Rattle.second.specs.Second.{no_blocks}
 use Rattle.place.proofs.Marks.{close_is}
 use Rattle.place.proofs.close_at.Goals as goal
 
 pub returns : goal.returns
 returns c =
-    close_is _ _ _ _ _ _ _ _ _ _ _ c.strip_in-w.ensures c.strip_in-v.ensures c.front_in-f.ensures c.state_in-s.ensures c.discard-done.ensures c.filter_step-deg.ensures c.front_bytes-x.ensures c.state_bytes-y.ensures c.lay_strip.ensures c.lay_strip-2.ensures
+    let n : c.default-state.result ≡ no_blocks = search rules in
+    close_is _ _ _ _ _ _ _ _ _ _ _ c.array_in.ensures c.array_in-2.ensures c.front_in-front.ensures c.state_in-state.ensures c.discard-done.ensures
+    c.filter_step-front.ensures c.front_bytes.ensures (rw n at c.state_bytes.ensures) c.lay_bytes.ensures c.lay_bytes-2.ensures

@@ -2,5 +2,5 @@ use Rattle.tandem.specs.Levels.{mark_rule}
 use Rattle.tandem.proofs.Turns.{SoFar}
 use Rattle.tandem.proofs.levels_mark.Given as goal
 
-abbrev pub invariant-loop-i : goal.invariant-loop-i
-invariant-loop-i l = SoFar mark_rule l.fn.ls l.fn.ls l.levels l.i
+abbrev pub invariant-loop-level : goal.invariant-loop-level
+invariant-loop-level l = SoFar mark_rule l.fn.levels l.levels l.level-index

@@ -1,6 +1,0 @@
-use Rattle.std.proofs.Common.{◌≡◌, take}
-use Rattle.answer.specs.Over.{over}
-use Rattle.codec.proofs.put_bytes.Given as goal
-
-abbrev pub invariant-loop-i : goal.invariant-loop-i
-invariant-loop-i l = l.b ≡ over l.fn.b l.at (take l.i l.src)
