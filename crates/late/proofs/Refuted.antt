@@ -21,6 +21,8 @@ use Rattle.late.proofs.void.Kinds as void_kinds
 use Rattle.late.proofs.void.Reads as void_reads
 use Rattle.late.proofs.Late.pending.Kinds as pending_kinds
 use Rattle.late.proofs.Late.pending.Reads as pending_reads
+use Rattle.late.proofs.Late.pending_report.Kinds as pending_report_kinds
+use Rattle.late.proofs.Late.pending_report.Reads as pending_report_reads
 use Rattle.late.proofs.Late.next_report.Kinds as next_report_kinds
 use Rattle.late.proofs.Late.next_report.Reads as next_report_reads
 use Rattle.late.proofs.Late.mark.Kinds as mark_kinds
@@ -56,6 +58,14 @@ open_number κs a x s one two e =
     let f : ◌≡◌ {A = Option (List ℕ)} (Some x) (Some (1 ∷ a.0.now.pending)) = rw one at e in
     let z : ◌≡◌ {A = ℕ} 2 1 = sym two ∙ ap first_of f in
     omega arith
+
+-- pending_report: its number is that of the seconds closed, and not of the open one
+pub pending_number_open : (κs : Lfts 1) (a : Dens κs pending_report_kinds.ps) (x : List ℕ) (s : AtExit (ended_of 1 pending_report_kinds.ps pending_report_kinds.r) κs)
+    → a.0.now.tandem.base.seconds ≡ 1 → get_or x 0 0 ≡ 2 → pending_report_reads.Post κs a x s → ⊥
+unfolding pending_of
+pending_number_open κs a x s one two e =
+    let z : ◌≡◌ {A = ℕ} 2 a.0.now.tandem.base.seconds = sym two ∙ ap (λ (l : List ℕ). get_or l 0 0) e in
+    omega (arith, z, one)
 
 -- next_report: its number is that of the seconds closed, and not of the open one
 pub next_number_open : (κs : Lfts 1) (a : Dens κs next_report_kinds.ps) (x : List ℕ) (s : AtExit (ended_of 1 next_report_kinds.ps next_report_kinds.r) κs)

@@ -9,6 +9,8 @@ use Rattle.late.proofs.void.Kinds as void_kinds
 use Rattle.late.proofs.void.Reads as void_reads
 use Rattle.late.proofs.Late.pending.Kinds as pending_kinds
 use Rattle.late.proofs.Late.pending.Reads as pending_reads
+use Rattle.late.proofs.Late.pending_report.Kinds as pending_report_kinds
+use Rattle.late.proofs.Late.pending_report.Reads as pending_report_reads
 use Rattle.late.proofs.Late.next_report.Kinds as next_report_kinds
 use Rattle.late.proofs.Late.next_report.Reads as next_report_reads
 use Rattle.late.proofs.Late.mark.Kinds as mark_kinds
@@ -23,6 +25,9 @@ void_one κs a x y s t p q = p ∙ sym q
 
 pub pending_one : OneAnswer 1 pending_kinds.ps pending_kinds.r pending_reads.Post
 pending_one κs a x y s t p q = p ∙ sym q
+
+pub pending_report_one : OneAnswer 1 pending_report_kinds.ps pending_report_kinds.r pending_report_reads.Post
+pending_report_one κs a x y s t p q = p ∙ sym q
 
 pub next_report_one : OneAnswer 1 next_report_kinds.ps next_report_kinds.r next_report_reads.Post
 next_report_one κs a x y s t p q = p ∙ sym q

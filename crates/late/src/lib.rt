@@ -129,6 +129,14 @@ impl Late {
         told(self.tandem.base.seconds, &self.pending)
     }
 
+    // The pending second's number and figures, its own discard made; where none is pending, 0 and what stands in its place.
+    #[tactic(auto, unfolding(crate::specs::Late::pending_of))]
+    pub fn pending_report(&self) -> [u32; 52]
+        ensures { result ≡ (pending_of self.now).figures }
+    {
+        numbered(self.tandem.base.seconds, &self.pending)
+    }
+
     // What the next mark gives: the pending second, discarded by the open one too.
     pub fn next_report(&self) -> [u32; 52]
         ensures { result ≡ next_report self.now }

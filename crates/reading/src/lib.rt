@@ -4,7 +4,7 @@
 
 ghost use Rattle.std.specs.Prelude.{◌≡◌, ◌+◌, ◌≤◌, ◌<◌, [], length, take};
 ghost use Rattle.stream.specs.Stream.{goes_on};
-ghost use Rattle.reading.specs.Turn.{Sound, start_reading, turned_as, turn_of, written_of, refilled_as, Refill};
+ghost use Rattle.reading.specs.Turn.{Sound, start_reading, start_refilled, turned_as, turn_of, written_of, refilled_as, Refill};
 
 use answer::Refusal;
 use arrayvec::ArrayVec;
@@ -146,21 +146,31 @@ impl Reading {
     // Refills until the output is whole. It ends for every input, however long: a trace has no more than 4,294,967,295 seconds of 400,000 frames.
     fn pump<R: Read, W: Write>(
         &mut self,
+        first: Refilled,
         input: &mut R,
         output: &mut W,
         buf: &mut [u8; 4096],
         out: &mut ArrayVec<u8, 1126400>,
     )
-        requires { Sound self.old }
+        requires sound { Sound self.old }
+        requires held_bound { first.held < 83 }
     {
-        let mut r = Refilled {
-            held: 0,
-            ended: false,
-        };
+        let mut r = first;
         while !r.ended {
             r = self.refill(r.held, input, output, buf, out);
         }
     }
+}
+
+// What a program starts with: the reading, and before the first refill nothing kept and no end.
+fn started(tell: bool, office: bool) -> (Reading, Refilled)
+    ensures { refilled_as result.1 result.0 ≡ start_refilled tell office }
+{
+    let first = Refilled {
+        held: 0,
+        ended: false,
+    };
+    (Reading::start(tell, office), first)
 }
 
 // A program from its start to its end. The text has room for the lines that 4,096 bytes of input can give: 1,024 seconds, the pending one, and the last two.
@@ -171,6 +181,6 @@ pub fn run<R: Input + Print>(rt: &R, tells: Tells) {
     let mut output = writer(rt);
     let tell = matches!(tells, Tells::Records | Tells::RecordsAndBins);
     let office = matches!(tells, Tells::Bins | Tells::RecordsAndBins);
-    let mut reading = Reading::start(tell, office);
-    reading.pump(&mut input, &mut output, &mut buf, &mut out);
+    let (mut reading, first) = started(tell, office);
+    reading.pump(first, &mut input, &mut output, &mut buf, &mut out);
 }

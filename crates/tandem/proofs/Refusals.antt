@@ -90,6 +90,14 @@ pub placed : (ls : List Level) (n m : ℕ) (l : Level) → 1 ≤ n → n ≤ 6 �
 placed ls n m l low high e = rw (e, le-leb 1 n low, le-leb n 6 high)
 
 -- line, section and path refuse no frame that is accepted with its six counts
+pub framed_taken : (t : Tandem) (overhead : List ℕ) (flags sm pm : ℕ) (counts : List ℕ) → frame_refusal t overhead flags sm pm counts ≡ 0
+    → step_refusal t.base overhead flags sm pm ≡ 0
+unfolding frame_refusal step_refusal
+framed_taken t overhead flags sm pm counts e =
+    let a = passed 4 (frame_checks t overhead flags sm pm counts) refl e in
+    rw (a.0, a.1.0, and_left (leb sm 8 && leb pm 8) (low_to 6 counts) a.1.1.0, a.1.1.1.0)
+
+-- and what they answer then
 pub framed_ok : (t : Tandem) (overhead : List ℕ) (flags sm pm : ℕ) (counts : List ℕ) → frame_refusal t overhead flags sm pm counts ≡ 0
     → step_of t.base overhead flags sm pm
     ≡ record { refusal = 0; report = report_of (stands_after t.base overhead flags) sm pm; supervisor = frame_of t.base overhead flags sm pm }

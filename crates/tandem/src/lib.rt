@@ -331,7 +331,7 @@ impl Tandem {
     }
 
     // One frame; `counts` are the violation counts of levels 1 to 6.
-    #[tactic(auto, using(crate::proofs::Refusals::framed_ok), unfolding(crate::specs::Tandem::framed_of))]
+    #[tactic(auto, using(crate::proofs::Refusals::framed_ok, crate::proofs::Refusals::framed_taken, answer::proofs::Numbers::number_above), unfolding(crate::specs::Tandem::framed_of))]
     pub fn step(
         &mut self,
         overhead: &[u8],
@@ -346,8 +346,8 @@ impl Tandem {
         ensures err { OnErr result (self.new ≡ self.old) }
     {
         self.takes(overhead, flags, sm, pm, counts)?;
+        let report = self.base.step(overhead, flags, sm, pm)?;
         self.flags = flags;
-        let report = self.base.frame(overhead, flags, sm, pm);
         let ssf = report.path.ssf;
         let m = &self.base.layers.align.multi;
         let stands = levels_step(&mut self.levels, ssf, m, overhead, counts);
