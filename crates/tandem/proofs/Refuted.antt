@@ -16,6 +16,7 @@ use Rattle.level.specs.declared.LevelStands.{LevelStands}
 use Rattle.supervisor.specs.Supervisor.{mark_of}
 use Rattle.tandem.specs.Levels.{blank_level, given_groups, low_to}
 use Rattle.tandem.specs.Tandem.{give_refusal, record_refusal, given_by, refusal_by, frame_refusal, framed_of, marked_of, level_report, level_traced}
+use Rattle.tandem.specs.declared.Listed.{Listed}
 use Rattle.tandem.specs.declared.Tandem.{Tandem}
 use Rattle.tandem.proofs.fresh_tandem.Kinds as fresh_tandem_kinds
 use Rattle.tandem.proofs.fresh_tandem.Reads as fresh_tandem_reads
@@ -33,6 +34,8 @@ use Rattle.tandem.proofs.Tandem.mark.Kinds as mark_kinds
 use Rattle.tandem.proofs.Tandem.mark.Reads as mark_reads
 use Rattle.tandem.proofs.listed_figures.Kinds as listed_figures_kinds
 use Rattle.tandem.proofs.listed_figures.Reads as listed_figures_reads
+use Rattle.tandem.proofs.listed_array.Kinds as listed_array_kinds
+use Rattle.tandem.proofs.listed_array.Reads as listed_array_reads
 use Rattle.tandem.proofs.Tandem.level_report.Kinds as level_report_kinds
 use Rattle.tandem.proofs.Tandem.level_report.Reads as level_report_reads
 use Rattle.tandem.proofs.Tandem.level_trace.Kinds as level_trace_kinds
@@ -95,6 +98,11 @@ pub all_listed : (κs : Lfts 2) (a : Dens κs listed_figures_kinds.ps) (x : Arra
     → a.0.now ≡ replicate 6 blank_level → a.1.0.now ≡ replicate 52 0 → length x.items ≡ 52 → listed_figures_reads.Post κs a x s → ⊥
 unfolding given_groups
 all_listed κs a x s none zeros all e = let h : ◌≡◌ {A = ℕ} 22 52 = simp (e, none, zeros) at all in omega arith
+
+pub all_in_array : (κs : Lfts 2) (a : Dens κs listed_array_kinds.ps) (x : Listed) (s : AtExit (ended_of 2 listed_array_kinds.ps listed_array_kinds.r) κs)
+    → a.0.now ≡ replicate 6 blank_level → a.1.0.now ≡ replicate 52 0 → x.n ≡ 52 → listed_array_reads.Post κs a x s → ⊥
+unfolding given_groups
+all_in_array κs a x s none zeros all e = let h : ◌≡◌ {A = ℕ} 22 52 = simp (e, none, zeros) at all in omega arith
 
 -- there is no level 0, and no level 7
 pub level_zero : (κs : Lfts 1) (a : Dens κs level_report_kinds.ps) (x : (res_t level_report_kinds.r κs).Denot) (s : AtExit (ended_of 1 level_report_kinds.ps level_report_kinds.r) κs)

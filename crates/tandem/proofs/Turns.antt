@@ -5,7 +5,7 @@ use mathlib.Core.Bool.{Bool, true, false, cond, ◌&&◌}
 use mathlib.Core.List.{List, [], ◌∷◌, ◌++◌, append_assoc, append-nil}
 use native.Mathlib.Numerals.{add-one}
 use native.Mathlib.Omega.{arith}
-use lib.ListN.{length, get_or, take, drop, set, length-set, length-append, length-take, length-drop}
+use lib.ListN.{length, get_or, take, drop, set, replicate, length-set, length-append, length-take, length-drop}
 use lib.Seq.{take_all, take_at, drop-drop, drop-set-lt, get_or-drop, take-suc, length-take-le}
 use lib.Dec.{leb}
 use borrow.Rule.Slice.PartMut.{put_mid}
@@ -15,10 +15,12 @@ use Rattle.std.proofs.lemmas.Slice.{take-put_mid}
 use Rattle.answer.specs.Each.{each_from}
 use Rattle.answer.proofs.Each.{turn, turned}
 use Rattle.answer.proofs.Cond.{by_cond}
+use Rattle.answer.specs.Over.{over}
 use Rattle.overhead.specs.Overhead.{level_field}
 use Rattle.alignment.specs.declared.Multi.{Multi}
-use Rattle.tandem.specs.Levels.{stepped_level, frame_rule, five_of, level_figures, given_groups, listed_of, low_to}
+use Rattle.tandem.specs.Levels.{stepped_level, frame_rule, five_of, level_figures, given_groups, listed_of, listed_in, low_to}
 use Rattle.tandem.specs.declared.Level.{Level}
+use Rattle.tandem.specs.declared.Listed.{Listed}
 
 -- A list as far as a loop has come that changes each element in its place: the first i are those of the rule, the others as they were at the start.
 abbrev pub SoFar : {A : Type 0} → (ℕ → A → A) → List A → List A → ℕ → Type 0
@@ -152,3 +154,10 @@ low_all (suc n) counts h =
 
 pub six_low : (counts : List ℕ) → length counts ≡ 6 → low_to 6 counts ≡ list_all (λ c. leb c 8) counts
 six_low counts h = sym (low_all 6 counts (omega arith)) ∙ ap (list_all (λ c. leb c 8)) (take_all 6 counts (omega arith))
+
+-- the listed figures at the start of an array, and how many they are
+pub array_is : (v w d : List ℕ) (n : ℕ) → d ≡ replicate 52 0 → w ≡ v → n ≡ length v → ◌≡◌ {A = Listed} (record { figures = w ++ drop n d; n = n }) (listed_in v)
+unfolding over
+array_is v w d n z e h =
+    let k : length v ≡ 0 + length v = omega arith in
+    rw (z, e, h) (ap {B = Listed} (λ (m : ℕ). record { figures = v ++ drop m (replicate 52 0); n = length v }) k)

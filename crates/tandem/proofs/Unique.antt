@@ -24,6 +24,8 @@ use Rattle.tandem.proofs.Tandem.mark.Kinds as mark_kinds
 use Rattle.tandem.proofs.Tandem.mark.Reads as mark_reads
 use Rattle.tandem.proofs.listed_figures.Kinds as listed_figures_kinds
 use Rattle.tandem.proofs.listed_figures.Reads as listed_figures_reads
+use Rattle.tandem.proofs.listed_array.Kinds as listed_array_kinds
+use Rattle.tandem.proofs.listed_array.Reads as listed_array_reads
 use Rattle.tandem.proofs.Tandem.level_report.Kinds as level_report_kinds
 use Rattle.tandem.proofs.Tandem.level_report.Reads as level_report_reads
 use Rattle.tandem.proofs.Tandem.level_trace.Kinds as level_trace_kinds
@@ -85,6 +87,9 @@ same_items x y v p q = ap (λ (u : List ℕ). record { items = u }) (p ∙ sym q
 
 pub listed_figures_one : OneAnswer 2 listed_figures_kinds.ps listed_figures_kinds.r listed_figures_reads.Post
 listed_figures_one κs a x y s t p q = same_items x y _ p q
+
+pub listed_array_one : OneAnswer 2 listed_array_kinds.ps listed_array_kinds.r listed_array_reads.Post
+listed_array_one κs a x y s t p q = p ∙ sym q
 
 pub level_report_one : OneAnswer 1 level_report_kinds.ps level_report_kinds.r level_report_reads.Post
 level_report_one κs a x y s t p q =

@@ -11,6 +11,7 @@ use Rattle.second.specs.declared.Blocks.{Blocks}
 use Rattle.level.specs.Level.{LevelFrame, level_frame, level_count, level_closed, level_marked, fresh_level, fresh_level_second}
 use Rattle.supervisor.specs.Supervisor.{blank_options}
 use Rattle.tandem.specs.declared.Level.{Level}
+use Rattle.tandem.specs.declared.Listed.{Listed}
 
 -- a level as it is provisioned, no frame met; and one that is not, which holds blanks
 abbrev pub given_level : Options → Level
@@ -75,10 +76,6 @@ abbrev pub listed_of : List Level → List ℕ → List ℕ
 listed_of ls figures = take 22 figures ++ given_groups ls (drop 22 figures)
 
 -- figures in the room of 52, zeros behind them, and how many they are
-pub record Listed : Type 0 where
-  pub figures : List ℕ
-  pub n : ℕ
-
 abbrev pub listed_in : List ℕ → Listed
 listed_in v = record { figures = over (replicate 52 0) 0 v; n = length v }
 

@@ -7,7 +7,7 @@ ghost use Rattle.answer.specs.Checks.{first_of};
 ghost use Rattle.overhead.specs.Overhead.{level_field};
 ghost use Rattle.answer.specs.Refusal.{said};
 ghost use Rattle.settings.specs.Settings.{options_of};
-ghost use Rattle.tandem.specs.Levels.{given_level, blank_level, stepped_level, marked_level, five_of, framed_levels, marked_levels, level_figures, listed_of, is_level, level_at, free_at, low_to};
+ghost use Rattle.tandem.specs.Levels.{given_level, blank_level, stepped_level, marked_level, five_of, framed_levels, marked_levels, level_figures, listed_of, listed_in, is_level, level_at, free_at, low_to};
 ghost use Rattle.tandem.specs.Tandem.{fresh_tandem, begun, request_refusal, place_checks, give_of, recorded_of, refusal_by, frame_refusal, framed_of, marked_of, ssf_now, nothing, level_shown, shown_levels, level_report, level_traced, reported, told};
 
 use alignment::Multi;
@@ -259,6 +259,23 @@ pub fn listed_figures(levels: &[Level; 6], figures: &[u32; 52]) -> ArrayVec<u32,
         }
     }
     listed
+}
+
+// The same in an array, with zeros behind them, and how many they are: a value that can be copied, as the vector cannot.
+#[derive(Clone, Copy)]
+pub struct Listed {
+    pub figures: [u32; 52],
+    pub n: usize,
+}
+
+pub fn listed_array(levels: &[Level; 6], figures: &[u32; 52]) -> Listed
+    ensures { result ≡ listed_in (listed_of levels.now figures.now) }
+{
+    let listed = listed_figures(levels, figures);
+    let n = listed.len();
+    let mut array = [0; 52];
+    array[..n].copy_from_slice(listed.as_slice());
+    Listed { figures: array, n }
 }
 
 impl Tandem {
