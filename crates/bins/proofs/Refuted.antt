@@ -17,6 +17,10 @@ use Rattle.bins.proofs.Bins.closed_lines.Kinds as closed_kinds
 use Rattle.bins.proofs.Bins.closed_lines.Reads as closed_reads
 use Rattle.bins.proofs.Bins.rest_lines.Kinds as rest_kinds
 use Rattle.bins.proofs.Bins.rest_lines.Reads as rest_reads
+use Rattle.bins.proofs.closed_lines_at.Kinds as closed_at_kinds
+use Rattle.bins.proofs.closed_lines_at.Reads as closed_at_reads
+use Rattle.bins.proofs.rest_lines_at.Kinds as rest_at_kinds
+use Rattle.bins.proofs.rest_lines_at.Reads as rest_at_reads
 
 -- no_bins: no day of one second
 pub day_begun : (κs : Lfts 0) (x : Bins) (s : AtExit (ended_of 0 none_kinds.ps none_kinds.r) κs) → x.day.length ≡ 1 → none_reads.Post κs tt x s → ⊥
@@ -53,3 +57,15 @@ unfolding fitted bin_lines
 empty_printed h κs a r s b d o p =
     let e : length s.1.0.now.items ≡ 0 = ap (λ (l : List ℕ). length l) (rw (b, d) at (rest_reads.post-apart 1094 h κs a r s p).put) in
     omega arith
+
+-- closed_lines_at: with second 899 nothing closes
+pub closes_early_at : (κs : Lfts 1) (a : Dens κs closed_at_kinds.ps) (s : AtExit (ended_of 1 closed_at_kinds.ps closed_at_kinds.r) κs)
+    → a.1.0 ≡ 899 → a.1.1.0.now ≡ replicate 1094 0 → a.1.1.1.0 ≡ 0 → closed_at_reads.Post κs a 50 s → ⊥
+unfolding fitted bin_lines
+closes_early_at κs a s n d at e = let z : ◌≡◌ {A = ℕ} 50 0 = rw (n, d, at) at e.0 in omega arith
+
+-- rest_lines_at: what has no second has no line
+pub empty_printed_at : (κs : Lfts 1) (a : Dens κs rest_at_kinds.ps) (s : AtExit (ended_of 1 rest_at_kinds.ps rest_at_kinds.r) κs)
+    → a.0 ≡ no_bins → a.1.0.now ≡ replicate 1094 0 → a.1.1.0 ≡ 0 → rest_at_reads.Post κs a 100 s → ⊥
+unfolding fitted bin_lines
+empty_printed_at κs a s b d at e = let z : ◌≡◌ {A = ℕ} 100 0 = rw (b, d, at) at e.0 in omega arith

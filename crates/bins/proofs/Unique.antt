@@ -1,4 +1,4 @@
--- No second answer, and no second content of the lent bins or buffer and so no second length, meets the contract of a public function. Assumes nothing.
+-- No second answer, and no second content of the lent bins, buffer or bytes and so no second length, meets the contract of a public function. Assumes nothing.
 use Rattle.std.proofs.Common.{List, ℕ, Fits, w64, length, ap, sym, ◌∙◌}
 use Rattle.answer.specs.Answer.{OneAnswer, OneEnd}
 use Rattle.bins.specs.declared.Bins.{Bins}
@@ -12,6 +12,10 @@ use Rattle.bins.proofs.Bins.closed_lines.Kinds as closed_kinds
 use Rattle.bins.proofs.Bins.closed_lines.Reads as closed_reads
 use Rattle.bins.proofs.Bins.rest_lines.Kinds as rest_kinds
 use Rattle.bins.proofs.Bins.rest_lines.Reads as rest_reads
+use Rattle.bins.proofs.closed_lines_at.Kinds as closed_at_kinds
+use Rattle.bins.proofs.closed_lines_at.Reads as closed_at_reads
+use Rattle.bins.proofs.rest_lines_at.Kinds as rest_at_kinds
+use Rattle.bins.proofs.rest_lines_at.Reads as rest_at_reads
 
 pub none_one : OneAnswer 0 none_kinds.ps none_kinds.r none_reads.Post
 none_one κs a x y s t p q = p ∙ sym q
@@ -39,3 +43,15 @@ rest_end CAP h κs a x y s t p q =
 
 pub rest_one : (CAP : ℕ) (h : Fits w64 CAP) → OneEnd 3 (rest_kinds.ps CAP h) (rest_kinds.r CAP h) ℕ (λ κs s. length s.1.0.now.items) (rest_reads.Post CAP h)
 rest_one CAP h κs a x y s t p q = ap (λ (l : List ℕ). length l) (rest_end CAP h κs a x y s t p q)
+
+pub closed_at_one : OneAnswer 1 closed_at_kinds.ps closed_at_kinds.r closed_at_reads.Post
+closed_at_one κs a x y s t p q = p.0 ∙ sym q.0
+
+pub closed_at_end : OneEnd 1 closed_at_kinds.ps closed_at_kinds.r (List ℕ) (λ κs s. s.1.1.0.now) closed_at_reads.Post
+closed_at_end κs a x y s t p q = p.2 ∙ sym q.2
+
+pub rest_at_one : OneAnswer 1 rest_at_kinds.ps rest_at_kinds.r rest_at_reads.Post
+rest_at_one κs a x y s t p q = p.0 ∙ sym q.0
+
+pub rest_at_end : OneEnd 1 rest_at_kinds.ps rest_at_kinds.r (List ℕ) (λ κs s. s.1.0.now) rest_at_reads.Post
+rest_at_end κs a x y s t p q = p.2 ∙ sym q.2

@@ -1,7 +1,9 @@
-// The open quarter-hour and the open day of reported seconds: a second joined to both, their lines, and what is closed emptied.
+// The open quarter-hour and the open day of reported seconds: a second joined to both, their lines, and what is closed emptied. What puts lines has a function beside
+// it, by its name with `_at`, that puts them into lent bytes of any length, from a place on, and answers the place after them.
 #![tactic(auto)]
 
 ghost use Rattle.std.specs.Prelude.{◌≡◌, ◌++◌, ◌+◌, ◌≤◌, length};
+ghost use Rattle.answer.specs.Over.{over};
 ghost use Rattle.listing.specs.Text.{fitted, second_room, bin_room};
 ghost use Rattle.bins.specs.Bins.{without_levels, bins_with, no_bins, opened_of, bin_number, line_if, bin_lines, closed_lines, rest_lines};
 
@@ -119,4 +121,22 @@ impl Bins {
     {
         self.put_bins(0 < self.quarter.length, 0 < self.day.length, out);
     }
+}
+
+// `closed_lines` for lent bytes of any length, from a place on.
+pub fn closed_lines_at(b: Bins, n: u32, out: &mut [u8], at: usize) -> usize
+    ensures { (result ≡ at + length (fitted (length out.old) at second_room (closed_lines b n))) × (result ≤ at + second_room) × (out.new ≡ over out.old at (fitted (length out.old) at second_room (closed_lines b n))) }
+{
+    let mut lines = ArrayVec::<u8, SECOND_ROOM>::new();
+    b.closed_lines(n, &mut lines);
+    listing::put_line_at(&lines, out, at)
+}
+
+// `rest_lines` for lent bytes of any length, from a place on.
+pub fn rest_lines_at(b: Bins, out: &mut [u8], at: usize) -> usize
+    ensures { (result ≡ at + length (fitted (length out.old) at second_room (rest_lines b))) × (result ≤ at + second_room) × (out.new ≡ over out.old at (fitted (length out.old) at second_room (rest_lines b))) }
+{
+    let mut rest = ArrayVec::<u8, SECOND_ROOM>::new();
+    b.rest_lines(&mut rest);
+    listing::put_line_at(&rest, out, at)
 }

@@ -4,6 +4,7 @@ use Rattle.std.proofs.Math.ListN.{get_or}
 use contract.Lifetimes.{Lfts}
 use borrow.Fn.Kinds.{Dens, ended_of, res_t}
 use denote.Triple.Clauses.{AtExit}
+use Rattle.answer.specs.Over.{over}
 use Rattle.names.specs.Names.{same_in, same_trace}
 use Rattle.causes.specs.Causes.{ssf_of, tim_acts, head_of, report_of, no_report}
 use Rattle.tandem.specs.declared.Level.{Level}
@@ -33,6 +34,8 @@ use Rattle.change.proofs.shown_of.Kinds as shown_kinds
 use Rattle.change.proofs.shown_of.Reads as shown_reads
 use Rattle.change.proofs.change_line.Kinds as change_kinds
 use Rattle.change.proofs.change_line.Reads as change_reads
+use Rattle.change.proofs.change_line_at.Kinds as change_at_kinds
+use Rattle.change.proofs.change_line_at.Reads as change_at_reads
 
 -- a trace that is not known yet, gathered or not, is not shown as accepted
 pub gathered_shown : (κs : Lfts 1) (a : Dens κs shown_kinds.ps) (x : Shown) (s : AtExit (ended_of 1 shown_kinds.ps shown_kinds.r) κs)
@@ -92,4 +95,24 @@ pub empty_line : (h : Fits w64 2560) (κs : Lfts 4) (a : Dens κs (change_kinds.
 unfolding fitted change_line standing_changes trace_changes levels_to level_changes level_words under condition_changes conditions trace_change head_change changes_of change_of report_of no_report head_of tim_acts ssf_of same_trace same_in
 empty_line h κs a r s second frame total before after d o p =
     let e : length s.1.1.1.1.1.0.now.items ≡ 0 = ap (λ (l : List ℕ). length l) (rw (second, frame, total, before, after, d) at (change_reads.post-apart 2560 h κs a r s p).put) in
+    omega arith
+
+-- byte 127 is printed as a dot: it stands after `F 1 3 12 SM.trace="`
+pub delete_printed_at : (κs : Lfts 1) (a : Dens κs change_at_kinds.ps) (r : ℕ) (s : AtExit (ended_of 1 change_at_kinds.ps change_at_kinds.r) κs)
+    → a.0 ≡ 1 → a.1.0 ≡ 3 → a.1.1.0 ≡ 12 → a.1.1.1.0 ≡ quiet → a.1.1.1.1.0 ≡ told
+    → a.1.1.1.1.1.0.now ≡ replicate 2560 0 → a.1.1.1.1.1.1.0 ≡ 0 → get_or s.1.1.1.1.1.0.now 19 0 ≡ 127
+    → change_at_reads.Post κs a r s → ⊥
+unfolding fitted over change_line frame_line beginning_of standing_changes trace_changes levels_to level_changes level_words under condition_changes conditions trace_change told_of readable_of printable_of head_change changes_of change_of fields_of spaced decimal_in report_of no_report head_of tim_acts ssf_of same_trace same_in
+delete_printed_at κs a r s second frame total before after d at o p =
+    let e : get_or s.1.1.1.1.1.0.now 19 0 ≡ 46 = ap (λ (l : List ℕ). get_or l 19 0) (rw (second, frame, total, before, after, d, at) at p.2) in
+    let h : ◌≡◌ {A = ℕ} 127 46 = sym o ∙ e in
+    omega arith
+
+-- a frame at which nothing changed has no line, not even `F 1 3 12` and a line end
+pub empty_line_at : (κs : Lfts 1) (a : Dens κs change_at_kinds.ps) (s : AtExit (ended_of 1 change_at_kinds.ps change_at_kinds.r) κs)
+    → a.0 ≡ 1 → a.1.0 ≡ 3 → a.1.1.0 ≡ 12 → a.1.1.1.0 ≡ told → a.1.1.1.1.0 ≡ told
+    → a.1.1.1.1.1.0.now ≡ replicate 2560 0 → a.1.1.1.1.1.1.0 ≡ 0 → change_at_reads.Post κs a 9 s → ⊥
+unfolding fitted change_line standing_changes trace_changes levels_to level_changes level_words under condition_changes conditions trace_change head_change changes_of change_of report_of no_report head_of tim_acts ssf_of same_trace same_in
+empty_line_at κs a s second frame total before after d at p =
+    let h : ◌≡◌ {A = ℕ} 9 0 = rw (second, frame, total, before, after, d, at) at p.0 in
     omega arith

@@ -1,7 +1,8 @@
-// The text of a frame at which anything changed, put at the end of a lent buffer.
+// The text of a frame at which anything changed, put at the end of a lent buffer, or into lent bytes of any length, from a place on.
 #![tactic(auto)]
 
 ghost use Rattle.std.specs.Prelude.{◌≡◌, true, false, ◌++◌, ◌+◌, ◌≤◌, length};
+ghost use Rattle.answer.specs.Over.{over};
 ghost use Rattle.listing.specs.Text.{fitted};
 ghost use Rattle.conditions.specs.Conditions.{change_of};
 ghost use Rattle.change.specs.Change.{shown_of, seen_of, level_seen, traces_of, head_change, printable_of, readable_of, told_of, trace_change, level_trace, levels_to, words_of, trace_of, standing_changes, trace_changes, all_changes, frame_line, change_line, change_room};
@@ -292,4 +293,21 @@ pub fn change_line<const CAP: usize>(
     if !changes.is_empty() & (CHANGE_ROOM <= out.remaining_capacity()) {
         put_line(second, frame, total, changes.as_slice(), out);
     }
+}
+
+// `change_line` for lent bytes of any length, from a place on. Answers the place after the line.
+pub fn change_line_at(
+    second: u64,
+    frame: u32,
+    total: u64,
+    before: Shown,
+    after: Shown,
+    out: &mut [u8],
+    at: usize,
+) -> usize
+    ensures { (result ≡ at + length (fitted (length out.old) at change_room (change_line second frame total before after))) × (result ≤ at + change_room) × (out.new ≡ over out.old at (fitted (length out.old) at change_room (change_line second frame total before after))) }
+{
+    let mut line = ArrayVec::<u8, CHANGE_ROOM>::new();
+    change_line(second, frame, total, &before, &after, &mut line);
+    listing::put_line_at(&line, out, at)
 }

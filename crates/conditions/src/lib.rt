@@ -1,7 +1,9 @@
-// The text of the conditions that changed between two reports, and of those of a tandem level, put at the end of a lent buffer.
+// The text of the conditions that changed between two reports, and of those of a tandem level, put at the end of a lent buffer. Each public function has one beside it,
+// by its name with `_at`, that puts the same text into lent bytes of any length, from a place on, and answers the place after it.
 #![tactic(auto)]
 
 ghost use Rattle.std.specs.Prelude.{◌≡◌, cond, ◌++◌, ◌+◌, ◌≤◌, length};
+ghost use Rattle.answer.specs.Over.{over};
 ghost use Rattle.listing.specs.Text.{fitted};
 ghost use Rattle.conditions.specs.Conditions.{conditions, change_of, changes_of, condition_changes, condition_room, level_prefix, level_words, under, level_changes, level_room};
 ghost use Rattle.conditions.specs.Told.{told};
@@ -180,4 +182,28 @@ pub fn put_level<const CAP: usize>(
     if LEVEL_ROOM <= out.remaining_capacity() {
         put_changes(&prefix_of(n), &words_of(before), &words_of(after), out);
     }
+}
+
+// `put_conditions` for lent bytes of any length, from a place on.
+pub fn put_conditions_at(before: Report, after: Report, out: &mut [u8], at: usize) -> usize
+    ensures { (result ≡ at + length (fitted (length out.old) at condition_room (condition_changes before after))) × (out.new ≡ over out.old at (fitted (length out.old) at condition_room (condition_changes before after))) }
+{
+    let mut changes = ArrayVec::<u8, CONDITION_ROOM>::new();
+    put_conditions(&before, &after, &mut changes);
+    listing::put_line_at(&changes, out, at)
+}
+
+// `put_level` for lent bytes of any length, from a place on.
+pub fn put_level_at(
+    n: u8,
+    before: LevelStands,
+    after: LevelStands,
+    out: &mut [u8],
+    at: usize,
+) -> usize
+    ensures { (result ≡ at + length (fitted (length out.old) at level_room (level_changes n before after))) × (out.new ≡ over out.old at (fitted (length out.old) at level_room (level_changes n before after))) }
+{
+    let mut changes = ArrayVec::<u8, LEVEL_ROOM>::new();
+    put_level(n, &before, &after, &mut changes);
+    listing::put_line_at(&changes, out, at)
 }

@@ -4,6 +4,7 @@ use Rattle.std.proofs.Math.ListN.{get_or}
 use contract.Lifetimes.{Lfts}
 use borrow.Fn.Kinds.{Dens, ended_of, res_t}
 use denote.Triple.Clauses.{AtExit}
+use Rattle.answer.specs.Over.{over}
 use Rattle.answer.proofs.Cond.{by_cond}
 use Rattle.listing.specs.Text.{fitted, decimal_in, spaced, fields_of, text_line}
 use Rattle.listing.proofs.Texts.{fitted_is}
@@ -13,6 +14,7 @@ use Rattle.conditions.specs.Conditions.{conditions, change_of, changes_of, condi
 use Rattle.change.specs.declared.Shown.{Shown}
 use Rattle.change.specs.Change.{shown_of, head_change, printable_of, readable_of, told_of, trace_change, levels_to, level_seen, standing_changes, trace_changes, beginning_of, frame_line, change_line}
 use Rattle.tandem.specs.Levels.{given_groups}
+use Rattle.stream.specs.Stream.{change}
 use Rattle.trace.specs.declared.State.{State}
 use Rattle.trace.specs.Scan.{start_of}
 use Rattle.supervisor.specs.declared.Supervisor.{Supervisor}
@@ -31,6 +33,12 @@ use Rattle.lines.proofs.open_after.Kinds as open_kinds
 use Rattle.lines.proofs.open_after.Reads as open_reads
 use Rattle.lines.proofs.last_lines.Kinds as last_kinds
 use Rattle.lines.proofs.last_lines.Reads as last_reads
+use Rattle.lines.proofs.told_line_at.Kinds as told_at_kinds
+use Rattle.lines.proofs.told_line_at.Reads as told_at_reads
+use Rattle.lines.proofs.reported_lines_at.Kinds as reported_at_kinds
+use Rattle.lines.proofs.reported_lines_at.Reads as reported_at_reads
+use Rattle.lines.proofs.last_lines_at.Kinds as last_at_kinds
+use Rattle.lines.proofs.last_lines_at.Reads as last_at_reads
 
 -- shown_in: what stands of the levels is shown as it stands
 pub level_lost : (κs : Lfts 1) (a : Dens κs shown_kinds.ps) (x : Shown) (s : AtExit (ended_of 1 shown_kinds.ps shown_kinds.r) κs)
@@ -143,4 +151,60 @@ pub not_joined : (κs : Lfts 2) (a : Dens κs open_kinds.ps) (r : (res_t open_ki
 unfolding opened_of bins_with join_of join_refusal added_of second_of valid_of follows_on heads_good five_good
 not_joined κs a r s none last zero e =
     let z : ◌≡◌ {A = ℕ} 0 1 = sym zero ∙ rw (none, last) at (ap (λ (b : Bins). b.quarter.length) e) in
+    omega arith
+
+same_state_at : line_for (change 1 framed framed) ≡ []
+unfolding line_for
+same_state_at = same_state
+
+-- a record with which nothing changed puts no line, and no line end either
+pub empty_line_at : (κs : Lfts 1) (a : Dens κs told_at_kinds.ps) (s : AtExit (ended_of 1 told_at_kinds.ps told_at_kinds.r) κs) → told_at_reads.Post κs (framed, (framed, (1, (a.1.1.1.0, (0, tt))))) 1 s → ⊥
+unfolding fitted
+empty_line_at κs a s p =
+    let d : List ℕ = a.1.1.1.0.now in
+    let e : length (fitted (length d) 0 2560 (line_for (change 1 framed framed))) ≡ 0 =
+    ap (λ (l : List ℕ). length (fitted (length d) 0 2560 l)) same_state_at ∙ by_cond (λ (l : List ℕ). length l ≡ 0) (leb 2560 (length d - 0)) (λ _. refl) (λ _. refl) in
+    omega (arith, p.0, e)
+
+first_second_at : (d : List ℕ) → get_or (over d 0 (line_for (change 1 start_of framed))) 2 0 ≡ 49
+unfolding over line_for shown_of change_line frame_line beginning_of standing_changes trace_changes levels_to level_seen level_changes level_words under condition_changes conditions trace_change told_of readable_of printable_of head_change changes_of change_of fields_of spaced decimal_in report_of head_of tim_acts ssf_of same_trace same_in
+first_second_at d = refl
+
+-- the open second is counted from 1: a line that begins "F 0" is none
+pub second_from_0_at : (κs : Lfts 1) (a : Dens κs told_at_kinds.ps) (x : ℕ) (s : AtExit (ended_of 1 told_at_kinds.ps told_at_kinds.r) κs) → 2560 ≤ length a.1.1.1.0.now
+    → told_at_reads.Post κs (start_of, (framed, (1, (a.1.1.1.0, (0, tt))))) x s → get_or s.1.1.1.0.now 2 0 ≡ 48 → ⊥
+second_from_0_at κs a x s h p z =
+    let d : List ℕ = a.1.1.1.0.now in
+    let l : List ℕ = line_for (change 1 start_of framed) in
+    let f : fitted (length d) 0 2560 l ≡ l = fitted_is (length d) 0 2560 l (omega arith) in
+    let e : ◌≡◌ {A = ℕ} 48 49 = sym z ∙ ap (λ (o : List ℕ). get_or o 2 0) (p.2 ∙ ap (over d 0) f) ∙ first_second_at d in
+    omega arith
+
+-- reported_lines_at: twenty-two figures of one digit make 46 bytes; with those of six levels that are not provisioned they would be 106
+pub all_listed_at : (κs : Lfts 1) (a : Dens κs reported_at_kinds.ps) (s : AtExit (ended_of 1 reported_at_kinds.ps reported_at_kinds.r) κs)
+    → a.0 ≡ false → a.1.1.0 ≡ start_of → a.1.1.1.0.now ≡ replicate 1094 0 → a.1.1.1.1.0 ≡ 0 → reported_at_reads.Post κs a 106 s → ⊥
+unfolding fitted line_by line_for given_groups text_line fields_of spaced decimal_in
+all_listed_at κs a s office st d at p =
+    let h : ◌≡◌ {A = ℕ} 106 46 = rw (office, st, d, at) at p.0 in
+    omega arith
+
+-- last_lines_at: before the output is whole no last line is put
+pub last_too_early_at : (κs : Lfts 1) (a : Dens κs last_at_kinds.ps) (s : AtExit (ended_of 1 last_at_kinds.ps last_at_kinds.r) κs)
+    → a.0 ≡ false → a.1.1.1.1.1.1.1.1.0 ≡ 0 → last_at_reads.Post κs a 1 s → ⊥
+last_too_early_at κs a s d at p =
+    let e = nothing_put (length a.1.1.1.1.1.1.1.0.now) a.1.1.1.1.1.1.1.1.0 a.0 a.1.0 a.1.1.0 a.1.1.1.0 a.1.1.1.1.0 a.1.1.1.1.1.0 a.1.1.1.1.1.1.0 d in
+    omega (arith, p.0, e, at)
+
+first_letter_at : (d : List ℕ) → get_or (over d 0 (ending_of true false no_bins one_closed 16 0 0)) 0 0 ≡ 83
+unfolding over last_lines pending_line second_lines pending_of end_lines given_groups text_line fields_of spaced decimal_in
+first_letter_at d = refl
+
+-- the pending second is printed before R
+pub refusal_first_at : (κs : Lfts 1) (a : Dens κs last_at_kinds.ps) (x : ℕ) (s : AtExit (ended_of 1 last_at_kinds.ps last_at_kinds.r) κs) → 2276 ≤ length a.1.1.1.1.1.1.1.0.now
+    → last_at_reads.Post κs (true, (false, (no_bins, (one_closed, (16, (0, (0, (a.1.1.1.1.1.1.1.0, (0, tt))))))))) x s → get_or s.1.1.1.1.1.1.1.0.now 0 0 ≡ 82 → ⊥
+refusal_first_at κs a x s h p z =
+    let d : List ℕ = a.1.1.1.1.1.1.1.0.now in
+    let l : List ℕ = ending_of true false no_bins one_closed 16 0 0 in
+    let f : fitted (length d) 0 2276 l ≡ l = fitted_is (length d) 0 2276 l (omega arith) in
+    let e : ◌≡◌ {A = ℕ} 82 83 = sym z ∙ ap (λ (o : List ℕ). get_or o 0 0) (p.1 ∙ ap (over d 0) f) ∙ first_letter_at d in
     omega arith

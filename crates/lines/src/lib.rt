@@ -1,11 +1,13 @@
-// The line of a record that a scan told, from what was shown before it and the state after it; of a second that it reported; and the last lines.
+// The line of a record that a scan told, from what was shown before it and the state after it; of a second that it reported; and the last lines. What puts lines has a
+// function beside it, by its name with `_at`, that puts them into lent bytes of any length, from a place on, and answers the place after them.
 #![tactic(auto)]
 
 ghost use Rattle.std.specs.Prelude.{◌≡◌, ◌++◌, ◌+◌, ◌≤◌, length};
+ghost use Rattle.answer.specs.Over.{over};
 ghost use Rattle.listing.specs.Text.{fitted, second_room, second_line};
 ghost use Rattle.change.specs.Change.{change_room};
 ghost use Rattle.tandem.specs.Levels.{listed_of};
-ghost use Rattle.stream.specs.Stream.{last_listed, second};
+ghost use Rattle.stream.specs.Stream.{last_listed, second, change};
 ghost use Rattle.lines.specs.Line.{shown_in, line_for, told_for, closed_text, reported_text, opened_by, pending_line, last_closed, office_end, end_text, end_lines, ending_of, last_room};
 
 use arrayvec::ArrayVec;
@@ -14,7 +16,11 @@ use change::Shown;
 use tandem::Level;
 use trace::State;
 
-// `last_room` of specs/.
+// The rooms of specs/.
+const SECOND_ROOM: usize = 1094;
+
+const CHANGE_ROOM: usize = 2560;
+
 const LAST_ROOM: usize = 2276;
 
 // What a state shows.
@@ -181,4 +187,47 @@ pub fn last_lines<const CAP: usize>(
         end_text(office, b, st, out);
         outcome.put(st.sup.tandem.base.seconds, out);
     }
+}
+
+// `told_line` for lent bytes of any length, from a place on, of the states before and after the record.
+#[tactic(auto, unfolding(crate::specs::Line::line_for))]
+pub fn told_line_at(was: State, is: State, total: u64, out: &mut [u8], at: usize) -> usize
+    ensures { (result ≡ at + length (fitted (length out.old) at change_room (line_for (change total was is)))) × (result ≤ at + change_room) × (out.new ≡ over out.old at (fitted (length out.old) at change_room (line_for (change total was is)))) }
+{
+    let mut line = ArrayVec::<u8, CHANGE_ROOM>::new();
+    told_line(total, &shown_in(&was), &is, &mut line);
+    listing::put_line_at(&line, out, at)
+}
+
+// `reported_lines` for lent bytes of any length, from a place on.
+pub fn reported_lines_at(office: bool, b: Bins, st: State, out: &mut [u8], at: usize) -> usize
+    ensures { (result ≡ at + length (fitted (length out.old) at second_room (reported_text office b st))) × (result ≤ at + second_room) × (out.new ≡ over out.old at (fitted (length out.old) at second_room (reported_text office b st))) }
+{
+    let mut lines = ArrayVec::<u8, SECOND_ROOM>::new();
+    reported_lines(office, &b, &st, &mut lines);
+    listing::put_line_at(&lines, out, at)
+}
+
+// `last_lines` for lent bytes of any length, from a place on.
+pub fn last_lines_at(
+    done: bool,
+    office: bool,
+    b: Bins,
+    st: State,
+    refusal: u8,
+    offset: u64,
+    frames: u64,
+    out: &mut [u8],
+    at: usize,
+) -> usize
+    ensures { (result ≡ at + length (fitted (length out.old) at last_room (ending_of done office b st refusal offset frames))) × (out.new ≡ over out.old at (fitted (length out.old) at last_room (ending_of done office b st refusal offset frames))) }
+{
+    let outcome = Outcome {
+        refusal,
+        offset,
+        frames,
+    };
+    let mut last = ArrayVec::<u8, LAST_ROOM>::new();
+    last_lines(done, office, &b, &st, &outcome, &mut last);
+    listing::put_line_at(&last, out, at)
 }

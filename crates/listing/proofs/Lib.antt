@@ -1,3 +1,4 @@
+pub mod Places
 pub mod Refuted
 pub mod Texts
 pub mod Unique

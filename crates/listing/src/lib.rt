@@ -1,8 +1,10 @@
-// The text of the listing's lines, put at the end of a lent buffer.
+// The text of the listing's lines, put at the end of a lent buffer. Each public function has one beside it, by its name with `_at`, that puts the same text into lent
+// bytes of any length, from a place on, and answers the place after it.
 // No Display and no `write!`: tried, and a line took 2.2 times the instructions into a String, and 4.7 times by a writer, with an adapter for each piece.
 #![tactic(auto)]
 
 ghost use Rattle.std.specs.Prelude.{◌≡◌, [], ◌∷◌, ◌++◌, ◌+◌, ◌*◌, ◌≤◌, length, take};
+ghost use Rattle.answer.specs.Over.{over};
 ghost use Rattle.listing.specs.Text.{decimal_of, spaced, fields_of, line_start, text_line, fitted, second_line, refusal_line, end_line, number_room, start_room, second_room, bin_room, pair_room};
 
 use arrayvec::ArrayVec;
@@ -157,4 +159,80 @@ pub fn end_line<const CAP: usize>(marks: u32, frames: u64, out: &mut ArrayVec<u8
     ensures bound { length out.new.items ≤ length out.old.items + pair_room }
 {
     pair_line(b'E', u64::from(marks), frames, out);
+}
+
+// `put_text` for lent bytes of any length, from a place on: where there is no room for all of the text, it puts nothing. Answers the place after it.
+pub fn put_text_at(src: &[u8], out: &mut [u8], at: usize) -> usize
+    ensures { (result ≡ at + length (fitted (length out.old) at (length src.now) src.now)) × (out.new ≡ over out.old at (fitted (length out.old) at (length src.now) src.now)) }
+{
+    if src.len() <= out.len() && at <= out.len() - src.len() {
+        out[at..at + src.len()].copy_from_slice(src);
+        return at + src.len();
+    }
+    at
+}
+
+// Puts the line that a vector holds, as `put_text_at` does, where there is room for all that the vector could hold.
+pub fn put_line_at<const CAP: usize>(line: &ArrayVec<u8, CAP>, out: &mut [u8], at: usize) -> usize
+    ensures { (result ≡ at + length (fitted (length out.old) at CAP line.now.items)) × (result ≤ at + CAP) × (out.new ≡ over out.old at (fitted (length out.old) at CAP line.now.items)) }
+{
+    if CAP <= out.len().saturating_sub(at) {
+        return put_text_at(line.as_slice(), out, at);
+    }
+    at
+}
+
+// `put_number` for lent bytes of any length, from a place on.
+pub fn put_number_at(n: u64, out: &mut [u8], at: usize) -> usize
+    ensures { (result ≡ at + length (fitted (length out.old) at number_room (decimal_of n))) × (out.new ≡ over out.old at (fitted (length out.old) at number_room (decimal_of n))) }
+{
+    let mut digits = ArrayVec::<u8, NUMBER_ROOM>::new();
+    put_number(n, &mut digits);
+    put_line_at(&digits, out, at)
+}
+
+// `put_start` for lent bytes of any length, from a place on.
+pub fn put_start_at(letter: u8, ns: [u64; 3], out: &mut [u8], at: usize) -> usize
+    ensures { (result ≡ at + length (fitted (length out.old) at start_room (line_start letter ns))) × (out.new ≡ over out.old at (fitted (length out.old) at start_room (line_start letter ns))) }
+{
+    let mut start = ArrayVec::<u8, START_ROOM>::new();
+    put_start(letter, ns, &mut start);
+    put_line_at(&start, out, at)
+}
+
+// `second_line` for lent bytes of any length, from a place on: of the first n of the figures (all of them where n is more).
+#[tactic(auto, using(crate::proofs::Places::first_of))]
+pub fn second_line_at(figures: [u32; 52], n: usize, out: &mut [u8], at: usize) -> usize
+    ensures { (result ≡ at + length (fitted (length out.old) at second_room (second_line (take n figures)))) × (result ≤ at + second_room) × (out.new ≡ over out.old at (fitted (length out.old) at second_room (second_line (take n figures)))) }
+{
+    let mut line = ArrayVec::<u8, SECOND_ROOM>::new();
+    second_line(&figures[..n.min(52)], &mut line);
+    put_line_at(&line, out, at)
+}
+
+// `bin_line` for lent bytes of any length, from a place on.
+pub fn bin_line_at(letter: u8, number: u64, ns: [u64; 23], out: &mut [u8], at: usize) -> usize
+    ensures { (result ≡ at + length (fitted (length out.old) at bin_room (text_line letter (number ∷ ns)))) × (result ≤ at + bin_room) × (out.new ≡ over out.old at (fitted (length out.old) at bin_room (text_line letter (number ∷ ns)))) }
+{
+    let mut line = ArrayVec::<u8, BIN_ROOM>::new();
+    bin_line(letter, number, ns, &mut line);
+    put_line_at(&line, out, at)
+}
+
+// `refusal_line` for lent bytes of any length, from a place on.
+pub fn refusal_line_at(number: u8, offset: u64, out: &mut [u8], at: usize) -> usize
+    ensures { (result ≡ at + length (fitted (length out.old) at pair_room (refusal_line number offset))) × (out.new ≡ over out.old at (fitted (length out.old) at pair_room (refusal_line number offset))) }
+{
+    let mut line = ArrayVec::<u8, PAIR_ROOM>::new();
+    refusal_line(number, offset, &mut line);
+    put_line_at(&line, out, at)
+}
+
+// `end_line` for lent bytes of any length, from a place on.
+pub fn end_line_at(marks: u32, frames: u64, out: &mut [u8], at: usize) -> usize
+    ensures { (result ≡ at + length (fitted (length out.old) at pair_room (end_line marks frames))) × (out.new ≡ over out.old at (fitted (length out.old) at pair_room (end_line marks frames))) }
+{
+    let mut line = ArrayVec::<u8, PAIR_ROOM>::new();
+    end_line(marks, frames, &mut line);
+    put_line_at(&line, out, at)
 }
