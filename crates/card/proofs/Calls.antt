@@ -33,7 +33,7 @@ use Rattle.tandem.specs.Tandem.{fresh_tandem, TandemStepped, give_refusal, with_
 use Rattle.tandem.specs.declared.Tandem.{Tandem}
 use Rattle.engines.specs.Engines.{framed_by_table}
 use Rattle.engines.proofs.Engines.{engines_alike}
-use Rattle.bay.specs.Bay.{traced_in}
+use Rattle.bay.specs.Bay.{record_at, given_in, traced_in}
 use Rattle.bays.specs.Image.{tandem_bytes, tandem_from}
 use Rattle.late.specs.Late.{fresh_late, next_report, pending_of, late_marked}
 use Rattle.slots.specs.Image.{late_bytes, late_from, late_sound}
@@ -252,6 +252,14 @@ traced_refusal : (t : Tandem) (n : ℕ) → (level_traced t n).refusal ≡ cond 
 unfolding level_traced
 traced_refusal t n =
     settled Traced (λ (a : Traced). a.refusal) (cond ((level_at t.levels n).given && (level_at t.levels n).state.layer.known) 0 13) _ _ refl refl
+
+-- a trace that is read has its 64 bytes
+traced_long : (b : List ℕ) (n : ℕ) → length (traced_in b n).trace ≡ 64
+unfolding traced_in held_in
+traced_long b n =
+    by_cond (λ (v : Traced). length v.trace ≡ 64) (given_in b n)
+    (λ _. by_cond (λ (v : Traced). length v.trace ≡ 64) (state_in (bytes_in 32 32 (record_at b n))).known (λ _. length_in 64 64 (record_at b n)) (λ _. refl))
+    (λ _. refl)
 
 -- what is read of the bytes is what is told
 pub level_trace_is : (sup : List ℕ) (n : ℕ) → late_sound sup ≡ true → traced_in (take 1760 (drop 688 sup)) n ≡ level_traced (tandem_of sup) n
