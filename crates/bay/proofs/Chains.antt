@@ -16,6 +16,8 @@ use Rattle.answer.proofs.Each.{each_length, each_at}
 use Rattle.answer.proofs.Overs.{over_nil, over_over, over_length}
 use Rattle.codec.proofs.Overs.{over_all}
 use Rattle.words.proofs.Ranges.{and_true}
+use Rattle.ranges.proofs.Below.{and_two}
+use Rattle.rack.specs.Rack.{level_sound}
 use Rattle.bay.specs.Bay.{records_from, records_of, chained, all_sound, each_record}
 
 -- the records, and record i
@@ -87,6 +89,15 @@ record_set b y i h n =
     let g : take (begins i) b ++ (y ++ drop (spans i) (drop (begins i) b)) ≡ take 32 b ++ (x ++ z) =
     rw (span i, take-add 32 (288 * i) b, ← drop-drop (288 * i) 32 b) (append_assoc (take 32 b) x z) in
     g ∙ ap (λ (r : List ℕ). take 32 b ++ r) (chained_set 6 (drop 32 b) y i h m)
+
+-- one record more of the test
+sound_append : (rs : List (List ℕ)) (r : List ℕ) → all_sound (rs ++ (r ∷ [])) ≡ (all_sound rs && level_sound r)
+unfolding all_sound
+sound_append [] r = and_true (level_sound r)
+sound_append (x ∷ rs) r = rw (sound_append rs r) (and_two (level_sound x) (all_sound rs) (level_sound r))
+
+pub sound_turn : (rs : List (List ℕ)) (i : ℕ) → i < length rs → all_sound (take (i + 1) rs) ≡ (all_sound (take i rs) && level_sound (get_or rs i []))
+sound_turn rs i h = rw (add-one, take-suc rs i []) (sound_append (take i rs) (get_or rs i []))
 
 -- the test of the records at its end: as many flags as records, and one of both is used up
 pub sound_end : (t g : Bool) (rs : List (List ℕ)) (bs : List ℕ) → length rs ≡ length bs → (rs ≡ []) ⊎ (bs ≡ []) → t ≡ (g && all_sound rs) → g ≡ t

@@ -18,7 +18,7 @@ use Rattle.codec.proofs.Overs.{poured_all, bytes_room, length_in}
 use Rattle.words.specs.Words.{flat, words_of, words_in}
 use Rattle.words.proofs.Words.{words_room}
 use Rattle.settings.specs.declared.Request.{Request}
-use Rattle.supervisor.specs.Supervisor.{Traced, layer_at}
+use Rattle.supervisor.specs.Supervisor.{Provisioned, Traced, layer_at, provision_of}
 use Rattle.layer.specs.declared.Layer.{Layer}
 use Rattle.supervisor.specs.declared.Supervisor.{Supervisor}
 use Rattle.numbers.specs.declared.Head.{Head}
@@ -33,18 +33,35 @@ use Rattle.tandem.specs.Tandem.{fresh_tandem, TandemStepped, give_refusal, with_
 use Rattle.tandem.specs.declared.Tandem.{Tandem}
 use Rattle.engines.specs.Engines.{framed_by_table}
 use Rattle.engines.proofs.Engines.{engines_alike}
-use Rattle.bay.specs.Bay.{traced_in}
+use Rattle.bay.specs.Bay.{record_at, given_in, traced_in}
 use Rattle.bays.specs.Image.{tandem_bytes, tandem_from}
 use Rattle.late.specs.Late.{fresh_late, next_report, pending_of, late_marked}
 use Rattle.slots.specs.Image.{late_bytes, late_from, late_sound}
 use Rattle.slots.proofs.Trip.{late_bytes_lem, tandem_sound_lem}
-use Rattle.card.specs.Calls.{tandem_of, Provision, fresh_refusal, fresh_by, fresh_sup, FreshCall, level_refusal, level_sup, LevelCall, call_refusal, call_answer, call_sup, StepCall, mark_refusal, mark_answer, mark_sup, mark_record, MarkCall, pending_refusal, pending_answer, pending_record, PendingCall, trace_refused, trace_out, TraceCall, told_refusal, told_word, told_answer, LevelReportCall, traced_at, level_trace_refused, level_trace_out, LevelTraceCall}
+use Rattle.card.specs.Calls.{tandem_of, Provision, provision_refusal, fresh_refusal, fresh_by, fresh_sup, FreshCall, level_refusal, level_sup, LevelCall, call_refusal, call_answer, call_sup, StepCall, mark_refusal, mark_answer, mark_sup, mark_record, MarkCall, pending_refusal, pending_answer, pending_record, PendingCall, trace_refused, trace_out, TraceCall, told_refusal, told_word, told_answer, LevelReportCall, traced_at, level_trace_refused, level_trace_out, LevelTraceCall}
 use Rattle.card.proofs.Halves.{level_traced_lem}
 use Rattle.card.proofs.Late.{mark_accepted, base_here, bay_here, tandem_here, slot_kept}
 
 -- no refusal's number is 0
 above_lem : (e : Refusal) → eqb (number_of e) 0 ≡ false
 above_lem e = let h = number_above e in ne_eqb (number_of e) 0 (λ z. omega (arith, h, z))
+
+-- an answer by value that is one thing where the refusal is 0 and another where it is not has that refusal
+settled : (A : Type 0) (numbered : A → ℕ) (n : ℕ) (x y : A) → numbered x ≡ 0 → numbered y ≡ n → numbered (cond (eqb n 0) x y) ≡ n
+settled A numbered n x y p q = by_cond (λ (a : A). numbered a ≡ n) (eqb n 0) (λ t. p ∙ sym (eqb-true n 0 t)) (λ _. q)
+
+-- what C provisions, by value: its refusal, and the fresh supervisor where it is accepted
+module _ (p : Provision) where
+  abbrev by_value : Provisioned
+  by_value = provision_of p.k p.section p.path p.snames p.pnames
+
+  pub provision_number : by_value.refusal ≡ provision_refusal p
+  unfolding provision_of
+  provision_number = settled Provisioned (λ (a : Provisioned). a.refusal) (provision_refusal p) _ _ refl refl
+
+  pub provision_taken : provision_refusal p ≡ 0 → by_value ≡ record { refusal = 0; supervisor = fresh_by p }
+  unfolding provision_of
+  provision_taken e = rw e
 
 -- otn_level
 
@@ -230,15 +247,19 @@ module _ (sup : List ℕ) (level : ℕ) where
 
 -- otn_level_trace
 
--- an answer by value that is one thing where the refusal is 0 and another where it is not has that refusal
-settled : (A : Type 0) (numbered : A → ℕ) (n : ℕ) (x y : A) → numbered x ≡ 0 → numbered y ≡ n → numbered (cond (eqb n 0) x y) ≡ n
-settled A numbered n x y p q = by_cond (λ (a : A). numbered a ≡ n) (eqb n 0) (λ t. p ∙ sym (eqb-true n 0 t)) (λ _. q)
-
 -- the number of what is told of a trace
 traced_refusal : (t : Tandem) (n : ℕ) → (level_traced t n).refusal ≡ cond ((level_at t.levels n).given && (level_at t.levels n).state.layer.known) 0 13
 unfolding level_traced
 traced_refusal t n =
     settled Traced (λ (a : Traced). a.refusal) (cond ((level_at t.levels n).given && (level_at t.levels n).state.layer.known) 0 13) _ _ refl refl
+
+-- a trace that is read has its 64 bytes
+traced_long : (b : List ℕ) (n : ℕ) → length (traced_in b n).trace ≡ 64
+unfolding traced_in held_in
+traced_long b n =
+    by_cond (λ (v : Traced). length v.trace ≡ 64) (given_in b n)
+    (λ _. by_cond (λ (v : Traced). length v.trace ≡ 64) (state_in (bytes_in 32 32 (record_at b n))).known (λ _. length_in 64 64 (record_at b n)) (λ _. refl))
+    (λ _. refl)
 
 -- what is read of the bytes is what is told
 pub level_trace_is : (sup : List ℕ) (n : ℕ) → late_sound sup ≡ true → traced_in (take 1760 (drop 688 sup)) n ≡ level_traced (tandem_of sup) n

@@ -284,7 +284,7 @@ pub fn report_of(d: Standing, sm: u8, pm: u8) -> Report
     report_with(path_causes(path_ssf(d), d.path), d, sm, pm)
 }
 
-// Nothing stands: what a refusal reports.
+// Nothing stands: before the first frame, and of bytes that are no record.
 pub fn nothing() -> Standing
     ensures { result ≡ nothing_stands }
 {

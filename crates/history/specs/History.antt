@@ -59,7 +59,8 @@ pub data Answer : Type 0 where
   marked : ℕ → List ℕ → Answer
   traced : ℕ → List ℕ → Answer
 
--- by the contracts of `step`, `mark` and `trace_of`: the answer, and the supervisor handed back
+-- the answer, and the supervisor handed back, by the definitions of a frame, a mark and a trace; `step_is`, `mark_is` and `trace_is`
+-- (supervisor/proofs/Answered) are that the contracts of `Supervisor::step`, `mark` and `trace` say the same
 unfoldable pub answer_of : Supervisor → Call → Answer
 answer_of s (does (frame f)) =
     stepped (step_of s f.overhead f.flags f.sm f.pm).refusal (step_of s f.overhead f.flags f.sm f.pm).report

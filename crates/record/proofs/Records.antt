@@ -1,18 +1,48 @@
--- Laws of `record_of`: what a record that is not refused says of its list, and that more bytes after it do not change it; and the law
--- of `records_from`, that skipping bytes is dropping them. Assumes nothing.
+-- Laws of `record_of`: one for each of its five ends, what a record that is not refused says of its list, and that more bytes after it do not
+-- change it; and the law of `records_from`, that skipping bytes is dropping them. Assumes nothing.
 use Prim.Native.Nat.{ℕ, zero, suc, pred, ◌+◌, ◌-◌, ◌≤◌, ◌<◌}
 use mathlib.Core.Path.{◌≡◌, refl, ◌∙◌, ap}
 use mathlib.Core.Bool.{Bool, true, false, cond}
 use mathlib.Core.List.{List, [], ◌∷◌, ◌++◌}
-use native.Mathlib.Nat.{add-sub_cancel_left}
+use native.Mathlib.Nat.{add_assoc, add-zero, add-sub_cancel_left}
 use native.Mathlib.Omega.{arith}
 use lib.Dec.{eqb, ltb}
 use lib.ListN.{length, drop, take, length-drop, length-append, get_or-append}
-use lib.Seq.{drop-drop, take-append-le, drop-append-le}
-use borrow.Author.Tests.{le-ltb, ltb-true, ltb-false, eqb-false}
-use Rattle.record.specs.Record.{record_of, of_kind, length_of, refusal_in, two_at, size_of, records_from, records_of, body_of, Within}
+use lib.Seq.{get_or-drop, drop-drop, take-append-le, drop-append-le}
+use borrow.Author.Tests.{lt-ltb, le-ltb, eq-eqb, ne_eqb, ltb-true, ltb-false, eqb-false}
+use Rattle.record.specs.Record.{record_of, record_at, of_kind, length_of, refusal_in, two_at, size_of, records_from, records_of, body_of, Within}
 use Rattle.record.specs.declared.Record.{Record}
 use Rattle.record.specs.declared.Record.TheVariants.{Frame, Mark, Provisioning, Level, LevelFrame, Refused}
+
+module _ (s : List ℕ) (at : ℕ) where
+  pub two_drop : (i : ℕ) → two_at (drop at s) i ≡ two_at s (at + i)
+  two_drop i = simp (get_or-drop, add_assoc)
+
+  pub two_drop_0 : two_at (drop at s) 0 ≡ two_at s at
+  two_drop_0 = simp (get_or-drop, add-zero)
+
+  pub few : length s - at < 4 → record_at s at ≡ Refused 14
+  unfolding record_of
+  few h = simp (length-drop, lt-ltb _ _ h)
+
+  module _ (h : 4 ≤ length s - at) where
+    pub other : length_of (of_kind (two_at s (at + 2))) ≡ 0 → record_at s at ≡ Refused 15
+    unfolding record_of
+    other e = rw (length-drop, le-ltb _ _ h, two_drop 2, eq-eqb _ _ e)
+
+    module _ (k : length_of (of_kind (two_at s (at + 2))) ≡ 0 → ⊥) where
+      pub wrong : (two_at s at ≡ length_of (of_kind (two_at s (at + 2))) → ⊥) → record_at s at ≡ Refused 15
+      unfolding record_of
+      wrong e = rw (length-drop, le-ltb _ _ h, two_drop 2, ne_eqb _ _ k, two_drop_0, ne_eqb _ _ e)
+
+      module _ (e : two_at s at ≡ length_of (of_kind (two_at s (at + 2)))) where
+        pub short : length s - at < length_of (of_kind (two_at s (at + 2))) + 2 → record_at s at ≡ Refused 14
+        unfolding record_of
+        short l = rw (length-drop, le-ltb _ _ h, two_drop 2, ne_eqb _ _ k, two_drop_0, eq-eqb _ _ e, lt-ltb _ _ l)
+
+        pub all : length_of (of_kind (two_at s (at + 2))) + 2 ≤ length s - at → record_at s at ≡ of_kind (two_at s (at + 2))
+        unfolding record_of
+        all l = rw (length-drop, le-ltb _ _ h, two_drop 2, ne_eqb _ _ k, two_drop_0, eq-eqb _ _ e, le-ltb _ _ l)
 
 -- a part of s from a record's body on is part of what follows the record's start
 pub part_is : (s : List ℕ) (at end : ℕ) → take (at + end - (at + 4)) (drop (at + 4) s) ≡ take (end - 4) (drop 4 (drop at s))

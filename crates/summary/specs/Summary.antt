@@ -97,7 +97,7 @@ pub record Joined : Type 0 where
   pub refusal : ℕ
   pub summary : Summary
 
--- two joined; where it is refused, the empty summary is handed over
+-- two joined; where it is refused, the record has the empty summary beside the number, and the call answers the refusal alone
 abbrev pub refused_with : ℕ → Joined
 refused_with refusal = record { refusal = refusal; summary = empty_summary }
 

@@ -39,7 +39,7 @@ pub record Traced : Type 0 where
 abbrev pub fresh_of : Settings → Supervisor
 fresh_of s = record { settings = s; layers = fresh_layers; second = fresh_second; seconds = 0 }
 
--- what a refused provisioning hands over in place of a supervisor
+-- what the record of a refused provisioning has in place of a supervisor; the call itself answers the refusal and no supervisor
 abbrev pub blank_options : Options
 blank_options = record { thr = 1; degm = 2; mode = 0; disabled = false; names = replicate 32 0 }
 

@@ -110,3 +110,8 @@ framed_ok t overhead flags sm pm counts e =
 pub give_names : (t : Tandem) (n : ℕ) (r : Request) (names : List ℕ) → give_refusal t n r names ≡ 0 → length names ≡ 32
 unfolding give_refusal
 give_names t n r names e = eqb-true _ _ (passed 18 (request_checks t.base.settings.k r names ++ place_checks t n) refl e).1.1.1.1.0
+
+pub record_names : (t : Tandem) (n : ℕ) (r : Request) (names : List ℕ) → record_refusal t n r names ≡ 0 → length names ≡ 32
+unfolding record_refusal
+record_names t n r names e =
+    eqb-true _ _ (passed 18 (place_checks t n ++ request_checks t.base.settings.k r names) refl e).1.1.1.1.1.1.0

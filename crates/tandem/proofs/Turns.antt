@@ -5,8 +5,8 @@ use mathlib.Core.Bool.{Bool, true, false, cond, ◌&&◌}
 use mathlib.Core.List.{List, [], ◌∷◌, ◌++◌, append_assoc, append-nil}
 use native.Mathlib.Numerals.{add-one}
 use native.Mathlib.Omega.{arith}
-use lib.ListN.{length, get_or, take, drop, set, replicate, length-set, length-append, length-take, length-drop}
-use lib.Seq.{take_all, take_at, drop-drop, drop-set-lt, get_or-drop, take-suc, length-take-le}
+use lib.ListN.{length, get_or, take, drop, set, replicate, length-set, length-append, length-take, length-drop, get_or-replicate}
+use lib.Seq.{take_all, take_at, drop-drop, drop-set-lt, get_or-drop, set-get_or, take-suc, length-take-le}
 use lib.Dec.{leb}
 use borrow.Rule.Slice.PartMut.{put_mid}
 use Rattle.std.specs.List.{list_all}
@@ -16,9 +16,11 @@ use Rattle.answer.specs.Each.{each_from}
 use Rattle.answer.proofs.Each.{turn, turned}
 use Rattle.answer.proofs.Cond.{by_cond}
 use Rattle.answer.specs.Over.{over}
+use Rattle.overhead.specs.declared.Field.{Field}
 use Rattle.overhead.specs.Overhead.{level_field}
 use Rattle.alignment.specs.declared.Multi.{Multi}
-use Rattle.tandem.specs.Levels.{stepped_level, frame_rule, five_of, level_figures, given_groups, listed_of, listed_in, low_to}
+use Rattle.tandem.specs.Levels.{stepped_level, marked_level, frame_rule, five_of, level_figures, given_groups, listed_of, listed_in, low_to}
+use Rattle.tandem.specs.Tandem.{nothing, level_shown}
 use Rattle.tandem.specs.declared.Level.{Level}
 use Rattle.tandem.specs.declared.Listed.{Listed}
 
@@ -46,6 +48,43 @@ changed f xs l i a b s h e =
     let g : i < length l = omega arith in
     let t = turn f 1 xs l i a b s.1 g h (e ∙ ap (f (1 + i)) (next_same l xs i a s.2)) in
     (simp length-set n, t, drop-set-lt (i + 1) l i b (omega arith) ∙ rest_same l xs i s.2)
+
+-- a turn that passes over its element, since it is by the rule what it was
+pub passed_over : {A : Type 0} (f : ℕ → A → A) (xs l after : List A) (i : ℕ) (a : A)
+    → SoFar f xs l i → i < length xs → get_or l i a ≡ f (1 + i) (get_or l i a) → after ≡ l → SoFar f xs after (i + 1)
+passed_over f xs l after i a s h e w = rw w (rw (set-get_or l i a) at (changed f xs l i a (get_or l i a) s h e))
+
+-- A list of six as far as a loop has come that makes it from another and passes over some: the first i are those of the rule, the others as they were at
+-- the start.
+abbrev pub MadeSoFar : {A B : Type 0} → (ℕ → A → B) → List A → List B → List B → ℕ → Type 0
+MadeSoFar f xs start l i = (i ≤ 6) × (length l ≡ 6) × (take i l ≡ take i (each_from f 1 xs)) × (drop i l ≡ drop i start)
+
+-- a turn that makes its element, and one that passes over it
+pub turn_made : {A B : Type 0} (f : ℕ → A → B) (xs : List A) (start l after : List B) (i : ℕ) (a : A) (b : B)
+    → MadeSoFar f xs start l i → i < 6 → length xs ≡ 6 → b ≡ f (1 + i) (get_or xs i a) → after ≡ set l i b → MadeSoFar f xs start after (i + 1)
+turn_made f xs start l after i a b s h n e w =
+    let t = turn f 1 xs l i a b s.2 (omega arith) (omega arith) e in
+    let d = drop-set-lt (i + 1) l i b (omega arith) ∙ rest_same l start i s.3 in
+    rw w (omega arith, simp length-set s.1, t, d)
+
+pub turn_passed : {A B : Type 0} (f : ℕ → A → B) (xs : List A) (start l after : List B) (i : ℕ) (a : A) (b : B)
+    → MadeSoFar f xs start l i → i < 6 → length xs ≡ 6 → get_or start i b ≡ f (1 + i) (get_or xs i a) → after ≡ l → MadeSoFar f xs start after (i + 1)
+turn_passed f xs start l after i a b s h n e w =
+    turn_made f xs start l after i a (get_or l i b) s h n (next_same l start i b s.3 ∙ e) (w ∙ sym (set-get_or l i b))
+
+-- a level that is not provisioned is after a frame and after a mark what it was
+pub frame_stays : (l : Level) (ssf : Bool) (m : Multi) (f : Field) (n : ℕ) → l.given ≡ false → l ≡ stepped_level l ssf m f n
+unfolding stepped_level
+frame_stays l ssf m f n e = rw e
+
+pub mark_stays : (l : Level) → l.given ≡ false → l ≡ marked_level l
+unfolding marked_level
+mark_stays l e = rw e
+
+-- and nothing stands of it
+pub shown_nothing : (l : Level) (ssf : Bool) (i : ℕ) → i < 6 → l.given ≡ false → get_or (replicate 6 nothing) i nothing ≡ level_shown l ssf
+unfolding level_shown
+shown_nothing l ssf i h e = rw e (get_or-replicate 6 i nothing nothing h)
 
 -- the loop's end
 pub changed_all : {A : Type 0} (f : ℕ → A → A) (xs l : List A) (n : ℕ) → SoFar f xs l n → length xs ≤ n → l ≡ each_from f 1 xs

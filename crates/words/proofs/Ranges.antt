@@ -2,15 +2,29 @@
 use mathlib.Core.Path.{◌≡◌, refl}
 use mathlib.Core.Bool.{Bool, true, false, ◌&&◌}
 use mathlib.Core.List.{List, [], ◌∷◌, ◌++◌}
-use Prim.Native.Nat.{ℕ, ◌≤◌, ◌<◌}
+use Prim.Native.Nat.{ℕ, ◌+◌, ◌≤◌, ◌<◌}
+use native.Mathlib.Numerals.{add-one}
 use native.Mathlib.Omega.{arith}
 use lib.Dec.{leb, ltb}
-use lib.ListN.{length}
+use lib.ListN.{length, get_or, drop, drop_of_length-le}
+use lib.Seq.{drop-cons}
 use borrow.Author.Tests.{leb-true, ltb-true, le-leb}
 use Rattle.answer.proofs.Cond.{and_left, and_right}
 use Rattle.words.specs.Words.{flat, words_of}
 use Rattle.words.specs.Ranges.{inside}
 use Rattle.words.proofs.Words.{word_back}
+
+-- one more number of the test
+pub inside_step : (los his ws : List ℕ) (i : ℕ) → i < length los → i < length his → i < length ws
+    → inside (drop i los) (drop i his) (drop i ws)
+    ≡ (leb (get_or los i 0) (get_or ws i 0) && (leb (get_or ws i 0) (get_or his i 0) && inside (drop (i + 1) los) (drop (i + 1) his) (drop (i + 1) ws)))
+unfolding inside
+inside_step los his ws i h k m = rw (add-one, drop-cons los i 0, drop-cons his i 0, drop-cons ws i 0)
+
+-- past the last number the test holds
+pub inside_end : (los his ws : List ℕ) (i : ℕ) → length los ≤ i → length his ≤ i → length ws ≤ i → inside (drop i los) (drop i his) (drop i ws) ≡ true
+unfolding inside
+inside_end los his ws i h k m = rw (drop_of_length-le los {i = i} h, drop_of_length-le his {i = i} k, drop_of_length-le ws {i = i} m)
 
 -- what has passed, and the tests of one number, taken together
 pub and_three : (g a b r : Bool) → (g && (a && (b && r))) ≡ (((g && a) && b) && r)
