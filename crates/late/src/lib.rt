@@ -46,14 +46,13 @@ fn void_five(five: &mut [u32], e: Erred)
     requires { length five.old ≡ 5 }
     ensures { five.new ≡ void_five e five.old }
 {
+    // One by one: an array copied over them takes a mark more time, by its test of whether they overlap.
     if let [near, far, neards, fards, sum] = *five {
-        five.copy_from_slice(&[
-            kept(near, e.iae),
-            kept(far, e.iae | e.biae),
-            kept(neards, e.iae),
-            kept(fards, e.iae | e.biae),
-            kept(sum, e.iae | e.biae),
-        ]);
+        five[0] = kept(near, e.iae);
+        five[1] = kept(far, e.iae | e.biae);
+        five[2] = kept(neards, e.iae);
+        five[3] = kept(fards, e.iae | e.biae);
+        five[4] = kept(sum, e.iae | e.biae);
     }
 }
 

@@ -50,11 +50,10 @@ pub fn words_in<const N: usize>(b: &[u8], at: u32) -> [u32; N]
 {
     let from = at as usize;
     let mut w = [0u32; N];
-    if N > b.len() / 4 || from > b.len() - N * 4 {
-        return w;
-    }
-    for (i, x) in w.iter_mut().enumerate() {
-        *x = word_at(b, from + i * 4);
+    if N <= b.len() / 4 && from <= b.len() - N * 4 {
+        for (i, x) in w.iter_mut().enumerate() {
+            *x = word_at(b, from + i * 4);
+        }
     }
     w
 }

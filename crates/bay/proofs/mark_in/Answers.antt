@@ -20,7 +20,7 @@ loop-i-preserved c =
     let g = flag_stays f b l.b l.i (search rules) (omega arith) l.invariant.0 in
     let m = c.one_mark-five.ensures in
     let t = bay_turn f b l.b _ l.i (search rules) (omega arith) l.invariant.0 (omega arith) (rw (r, g) at m.holds) in
-    let w = write_turn (five_rule b) (records_of b) _ 0 5 l.out _ _ l.i (5 * l.i) (omega (arith, records_long 6 (drop 32 b))) l.invariant.1 (omega arith) (omega arith) (omega arith) (rw (r, g) at m.answers) (put_over _ _ _ (5 * l.i) _ c.copy_from_slice.ensures.after (omega arith)) in
+    let w = write_turn (five_rule b) (records_of b) _ 0 5 l.out _ _ l.i (5 * l.i) (omega (arith, records_long 6 (drop 32 b))) l.invariant.1 (omega arith) (omega arith) (omega arith) (rw (r, g) at m.answers) (put_over _ _ _ (5 * l.i) _ c.put_five.ensures (omega arith)) in
     (t, w)
 
 pub returns : goal.returns

@@ -15,8 +15,8 @@ loop-i-preserved g c =
           (c.word_at.ensures ∙ sym (word_of n b l.i (omega arith) ∙ word_at_drop c.args.b.now c.args.at (l.i * 4)));
     }
 
-pub returns : goal.returns
-returns g c =
+pub returns-after-loop-i : goal.returns-after-loop-i
+returns-after-loop-i g c =
     let l = c.loop-i in
     let n = g.row.N in
     let b = drop c.args.at c.args.b.now in
