@@ -90,7 +90,9 @@ fn lay_fresh(r: &mut [u8], p: &Options)
     codec::lay_bytes(r, 64, &[0; 64]);
     codec::lay_bytes(r, 128, &[0; 64]);
     codec::lay_bytes(r, 192, &[0; 64]);
-    codec::lay_bytes(r, 256, &p.names);
+    // Out of a copy: where the names are lent, r and they might overlap, and the copying tests for that.
+    let names = p.names;
+    codec::lay_bytes(r, 256, &names);
 }
 
 // Six blank records. The options by hand: from `supervisor::blank()` (tried) otn_fresh takes 272 bytes of stack, and C is promised 256.

@@ -106,19 +106,19 @@ pub fn align_in(w: [u8; 32]) -> Alignment
     }
 }
 
-// One array, its zeros written out, here and of a state: with parts copied into an array of zeros a mark and otn_fresh took more time.
 pub fn front_bytes(f: Front) -> [u8; 32]
     ensures { result ≡ front_bytes f }
 {
-    let [t0, t1, t2, t3] = f.thr.to_le_bytes();
-    let degm = (f.degm % 256) as u8;
-    let disabled = u8::from(f.disabled);
-    let on = u8::from(f.deg.on);
-    let run = (f.deg.run % 256) as u8;
-    [
-        t0, t1, t2, t3, degm, f.mode, disabled, on, run, 0, 0, 0, 0, 0, 0, 0, 0, 0, 0, 0, 0, 0, 0,
-        0, 0, 0, 0, 0, 0, 0, 0, 0,
-    ]
+    let mut bytes = [0; 32];
+    bytes[..4].copy_from_slice(&f.thr.to_le_bytes());
+    bytes[4..9].copy_from_slice(&[
+        (f.degm % 256) as u8,
+        f.mode,
+        u8::from(f.disabled),
+        u8::from(f.deg.on),
+        (f.deg.run % 256) as u8,
+    ]);
+    bytes
 }
 
 pub fn front_in(w: [u8; 32]) -> Front
@@ -139,10 +139,8 @@ pub fn front_in(w: [u8; 32]) -> Front
 pub fn state_bytes(s: State) -> [u8; 32]
     ensures { result ≡ state_bytes s }
 {
-    let [s0, s1, s2, s3] = s.blocks.sum.0.to_le_bytes();
-    let [n0, n1, n2, n3] = s.blocks.near.0.to_le_bytes();
-    let [f0, f1, f2, f3] = s.blocks.far.0.to_le_bytes();
-    [
+    let mut bytes = [0; 32];
+    bytes[..17].copy_from_slice(&[
         u8::from(s.known),
         u8::from(s.gathering),
         (s.equal % 256) as u8,
@@ -160,22 +158,11 @@ pub fn state_bytes(s: State) -> [u8; 32]
         u8::from(s.blocks.fards),
         u8::from(s.iaeseen),
         u8::from(s.biaeseen),
-        0,
-        0,
-        0,
-        s0,
-        s1,
-        s2,
-        s3,
-        n0,
-        n1,
-        n2,
-        n3,
-        f0,
-        f1,
-        f2,
-        f3,
-    ]
+    ]);
+    bytes[20..24].copy_from_slice(&s.blocks.sum.0.to_le_bytes());
+    bytes[24..28].copy_from_slice(&s.blocks.near.0.to_le_bytes());
+    bytes[28..].copy_from_slice(&s.blocks.far.0.to_le_bytes());
+    bytes
 }
 
 fn blocks_of(w: &[u8; 32]) -> Blocks
