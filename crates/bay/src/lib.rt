@@ -74,9 +74,10 @@ pub fn is_bay(b: &[u8]) -> bool
 
 // The record of a level as it is provisioned.
 // Tried with `&mut [u8; 288]`: a proof isn't told how long what comes back is, and the loops need it.
-fn lay_fresh(r: &mut [u8], p: &Options)
+// The options by value: lent, they might overlap r, and the copying of the names tests for that; otn_fresh took half as much time again.
+fn lay_fresh(r: &mut [u8], p: Options)
     requires { length r.old ≡ 288 }
-    ensures { r.new ≡ fresh_record p.now }
+    ensures { r.new ≡ fresh_record p }
 {
     let front = numbers::front_bytes(Front {
         thr: p.thr,
@@ -90,9 +91,7 @@ fn lay_fresh(r: &mut [u8], p: &Options)
     codec::lay_bytes(r, 64, &[0; 64]);
     codec::lay_bytes(r, 128, &[0; 64]);
     codec::lay_bytes(r, 192, &[0; 64]);
-    // Out of a copy: where the names are lent, r and they might overlap, and the copying tests for that.
-    let names = p.names;
-    codec::lay_bytes(r, 256, &names);
+    codec::lay_bytes(r, 256, &p.names);
 }
 
 // Six blank records. The options by hand: from `supervisor::blank()` (tried) otn_fresh takes 272 bytes of stack, and C is promised 256.
@@ -104,7 +103,7 @@ fn lay_blanks(b: &mut [u8; 1760])
         let at = 32 + 288 * i;
         lay_fresh(
             &mut b[at..at + 288],
-            &Options {
+            Options {
                 thr: 1,
                 degm: 2,
                 mode: 0,
@@ -137,7 +136,7 @@ fn give_in(b: &mut [u8; 1760], n: usize, p: &Options)
 {
     b[n] = 1;
     let at = 32 + 288 * (n - 1);
-    lay_fresh(&mut b[at..at + 288], p);
+    lay_fresh(&mut b[at..at + 288], *p);
 }
 
 // Level n provisioned; nothing is done where there is no such level.
