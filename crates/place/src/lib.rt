@@ -1,8 +1,9 @@
 // A frame and a mark in a supervisor's bytes, part by part: numbers go through the functions by value. What a frame does not change is not written.
 #![tactic(auto)]
 
-ghost use Rattle.std.specs.Prelude.{◌≡◌};
-ghost use Rattle.codec.specs.Over.{bytes_in};
+ghost use Rattle.std.specs.Prelude.{◌≡◌, ◌+◌, ◌≤◌, length};
+ghost use Rattle.answer.specs.Over.{over};
+ghost use Rattle.codec.specs.Over.{bytes_in, laid};
 ghost use Rattle.place.specs.Place.{section_filters, filtered_bytes, section_numbers, section_stood, section_record, SectionAt, path_bdi_at, path_numbers, path_frame, path_stood, path_record, PathAt, LineAt, tallied_in, CloseAt, opened_in};
 
 use alignment::Multi;
@@ -179,6 +180,27 @@ pub fn tally_at(b: &mut [u8], head: u8)
     }
 }
 
+// The bytes of a strip from `at`, byte by byte.
+#[tactic(auto, using(answer::proofs::Overs::over_nil, answer::proofs::Overs::over_suc))]
+fn put_strip(b: &mut [u8], at: usize, strip: &[u8; 32])
+    requires { at + 32 ≤ length b.old }
+    ensures { b.new ≡ over b.old at strip.now }
+{
+    for i in 0..32 {
+        b[at + i] = strip[i];
+    }
+}
+
+// A strip laid over b from `at`, as `codec::lay_bytes` lays it: copied as a whole, its zeros are read back from where they were just written, and a mark waits for that.
+#[tactic(auto, using(codec::proofs::Overs::laid_done, codec::proofs::Overs::laid_kept))]
+fn lay_strip(b: &mut [u8], at: usize, strip: &[u8; 32])
+    ensures { b.new ≡ laid b.old at strip.now }
+{
+    if 32 <= b.len() && at <= b.len() - 32 {
+        put_strip(b, at, strip);
+    }
+}
+
 // A layer's record at a mark: its values of the second, which is closed; dDEG is decided by them, and the next second has none.
 pub fn close_at(b: &mut [u8]) -> Blocks
     ensures { CloseAt b.old result b.new }
@@ -190,8 +212,8 @@ pub fn close_at(b: &mut [u8]) -> Blocks
     state.blocks = Blocks::default();
     state.iaeseen = false;
     state.biaeseen = false;
-    codec::lay_bytes(b, 0, &numbers::front_bytes(front));
-    codec::lay_bytes(b, 32, &numbers::state_bytes(state));
+    lay_strip(b, 0, &numbers::front_bytes(front));
+    lay_strip(b, 32, &numbers::state_bytes(state));
     done
 }
 
